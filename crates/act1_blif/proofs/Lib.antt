@@ -1,0 +1,2 @@
+pub mod OneValuation
+pub mod Samples

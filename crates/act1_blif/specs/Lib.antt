@@ -1,0 +1,4 @@
+pub mod Names
+pub mod Need
+pub mod Rules
+pub mod Run
