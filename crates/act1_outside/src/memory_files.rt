@@ -1,0 +1,210 @@
+ghost use Rattle.std.specs.Prelude.{◌≡◌, ◌≢◌, ◌∷◌, ◌++◌, [], ℕ, List, None, Some, OnOk, OnErr};
+ghost use Rattle.act1_outside.specs.MemoryFiles.{content_of};
+
+use crate::calls::Calls;
+use crate::files::{FileFault, Files};
+use act1_base::{Items, Memory, Name};
+use std::alloc::Global;
+use std::collections::BTreeMap;
+
+/// Files in memory. Its calls of `read` and `write` are counted together, from 1, and those that
+/// `fail` lists fail.
+#[derive(Drop)]
+pub struct MemoryFiles {
+    alloc: Global,
+    files: BTreeMap<String, Vec<u8>>,
+    calls: Calls,
+    failed_reads: Items<Name>,
+    failed_writes: Items<Name>,
+}
+
+// Adds the name to those of the failed calls. It comes before each answer `Failed`, since the
+// entries of a name are the count of its faults.
+fn note(alloc: Global, names: &mut Items<Name>, name: &str) -> Result<(), Memory>
+    ensures ok { OnOk result (names.new ≡ names.old ++ name.now ∷ []) }
+    ensures err { OnErr result (names.new ≡ names.old) }
+{
+    names.push(Name::new(alloc, name.as_bytes())?)
+}
+
+// Puts the bytes in the place of the whole content of a name.
+#[tactic(auto, using(std::proofs::lemmas::Map::Text::text_keys))]
+fn store(
+    alloc: Global,
+    files: &mut BTreeMap<String, Vec<u8>>,
+    name: &str,
+    bytes: &[u8],
+) -> Result<(), Memory>
+    ensures ok { OnOk result (content_of files.new name.now ≡ Some bytes.now) }
+    ensures others { (n : List ℕ) → n ≢ name.now → content_of files.new n ≡ content_of files.old n }
+    ensures err { OnErr result ((n : List ℕ) → content_of files.new n ≡ content_of files.old n) }
+{
+    let key = String::from_str(alloc, name)?;
+    let content = Vec::from_slice(alloc, bytes)?;
+    files.insert(key, content)?;
+    Ok(())
+}
+
+impl MemoryFiles {
+    ghost use Rattle.std.specs.Option.{option_map};
+    ghost use Rattle.act1_outside.specs.Outside.{SameHeld, OthersHeld, SameFaults};
+    ghost use Rattle.act1_outside.specs.Calls.{with_failing};
+    ghost use Rattle.act1_outside.specs.MemoryFiles.{shelf_of, calls_of};
+
+    /// No files: no name is there, no call was made, none is to fail, and no fault is counted. It
+    /// takes no memory.
+    pub fn new(alloc: Global) -> MemoryFiles
+        ensures held { (name : List ℕ) → (shelf_of result).held name ≡ None }
+        ensures reads { (name : List ℕ) → (shelf_of result).read_faults name ≡ 0 }
+        ensures writes { (name : List ℕ) → (shelf_of result).write_faults name ≡ 0 }
+        ensures calls { calls_of result ≡ record { made = 0; failing = [] } }
+    {
+        MemoryFiles {
+            alloc,
+            files: BTreeMap::new(alloc),
+            calls: Calls::new(alloc),
+            failed_reads: Items::new(alloc),
+            failed_writes: Items::new(alloc),
+        }
+    }
+
+    /// Puts the bytes in the place of the whole content of a name, which needn't be there before.
+    /// It is no counted call. After `Memory` every name holds what it held.
+    pub fn set(&mut self, name: &str, bytes: &[u8]) -> Result<(), Memory>
+        ensures holds { OnOk result ((shelf_of self.new).held name.now ≡ Some bytes.now) }
+        ensures others { OthersHeld name.now (shelf_of self.old) (shelf_of self.new) }
+        ensures err { OnErr result (SameHeld (shelf_of self.old) (shelf_of self.new)) }
+        ensures faults { SameFaults (shelf_of self.old) (shelf_of self.new) }
+        ensures calls { calls_of self.new ≡ calls_of self.old }
+    {
+        store(self.alloc, &mut self.files, name, bytes)?;
+        Ok(())
+    }
+
+    /// Lists a call that is to fail, by its number. A listed read gives nothing, and a listed write
+    /// leaves its name as it was. After `Memory` the list is as it was.
+    pub fn fail(&mut self, call: u64) -> Result<(), Memory>
+        ensures ok { OnOk result (calls_of self.new ≡ with_failing call (calls_of self.old)) }
+        ensures err { OnErr result (calls_of self.new ≡ calls_of self.old) }
+        ensures kept { shelf_of self.new ≡ shelf_of self.old }
+    {
+        self.calls.fail(call)
+    }
+
+    /// The content of a name, or `None` exactly where the name isn't there. It is no counted call.
+    pub fn held(&self, name: &str) -> Option<&[u8]>
+        ensures { option_map (λ bytes. bytes.now) result ≡ (shelf_of self.now).held name.now }
+    {
+        match self.files.get(name) {
+            Some(bytes) => Some(bytes.as_slice()),
+            None => None,
+        }
+    }
+}
+
+impl Files for MemoryFiles {
+    ghost use Rattle.std.specs.Prelude.{◌⊎◌, ◌+◌, IsTrue, IsErrOf, None};
+    ghost use Rattle.act1_outside.specs.Outside.{Reads, Writes, SameHeld};
+    ghost use Rattle.act1_outside.specs.Faults.{Fails, file_faults};
+    ghost use Rattle.act1_outside.specs.Calls.{one_more, next_fails};
+    ghost use Rattle.act1_outside.specs.MemoryFiles.{shelf_of, calls_of};
+
+    ghost seen = { shelf_of };
+
+    /// The content of a name. It fails exactly where the call is listed or the name isn't there,
+    /// but for want of memory.
+    #[tactic(auto, using(crate::proofs::Times::noted))]
+    fn read(&mut self, alloc: Global, name: &str, most: u64) -> Result<Vec<u8>, FileFault>
+        ensures reads { Reads name.now most (shelf_of self.old) result (shelf_of self.new) }
+        ensures listed { IsTrue (next_fails (calls_of self.old)) → Fails result }
+        ensures cause { IsErrOf result FileFault.Failed →
+            IsTrue (next_fails (calls_of self.old)) ⊎ ((shelf_of self.old).held name.now ≡ None) }
+        ensures faults { (shelf_of self.new).read_faults name.now ≡
+            (shelf_of self.old).read_faults name.now + file_faults result }
+        ensures calls { calls_of self.new ≡ one_more (calls_of self.old) }
+    {
+        let listed = self.calls.count();
+        match self.files.get(name) {
+            Some(bytes) if !listed => {
+                if bytes.len() as u64 > most {
+                    return Err(FileFault::TooLong);
+                }
+                Ok(bytes.as_slice().to_vec(alloc)?)
+            }
+            _ => {
+                note(self.alloc, &mut self.failed_reads, name)?;
+                Err(FileFault::Failed)
+            }
+        }
+    }
+
+    /// Writes a name. It fails exactly where the call is listed, but for want of memory, and then
+    /// every name holds what it held.
+    #[tactic(auto, using(crate::proofs::Times::noted))]
+    fn write(&mut self, name: &str, bytes: &[u8]) -> Result<(), FileFault>
+        ensures writes { Writes name.now bytes.now (shelf_of self.old) result (shelf_of self.new) }
+        ensures listed { IsTrue (next_fails (calls_of self.old)) → Fails result }
+        ensures cause { IsErrOf result FileFault.Failed → IsTrue (next_fails (calls_of self.old)) }
+        ensures err { OnErr result (SameHeld (shelf_of self.old) (shelf_of self.new)) }
+        ensures faults { (shelf_of self.new).write_faults name.now ≡
+            (shelf_of self.old).write_faults name.now + file_faults result }
+        ensures calls { calls_of self.new ≡ one_more (calls_of self.old) }
+    {
+        if self.calls.count() {
+            note(self.alloc, &mut self.failed_writes, name)?;
+            return Err(FileFault::Failed);
+        }
+        Ok(store(self.alloc, &mut self.files, name, bytes)?)
+    }
+}
+
+#[cfg(test)]
+mod tests {
+    use super::*;
+    use std::test::Fail;
+
+    #[test]
+    fn holds_what_is_set_and_written(rt: HostRuntime) -> Result<(), Fail> {
+        let mut files = MemoryFiles::new(rt.alloc());
+        files.set("a", b"one")?;
+        files.write("b", b"three")?;
+        files.write("a", b"")?;
+        assert_eq!(rt; files.held("a"), Some(b"".as_slice()));
+        assert_eq!(rt; files.held("b"), Some(b"three".as_slice()));
+        assert_eq!(rt; files.held("c"), None);
+        assert_eq!(rt;
+            files.read(rt.alloc(), "b", 5)?.as_slice(),
+            b"three".as_slice()
+        );
+        assert_eq!(rt;
+            files.read(rt.alloc(), "b", 4).err(),
+            Some(FileFault::TooLong)
+        );
+        assert_eq!(rt;
+            files.read(rt.alloc(), "c", 4).err(),
+            Some(FileFault::Failed)
+        );
+        Ok(())
+    }
+
+    #[test]
+    fn listed_calls_fail(rt: HostRuntime) -> Result<(), Fail> {
+        let mut files = MemoryFiles::new(rt.alloc());
+        files.fail(3)?;
+        files.fail(2)?;
+        files.set("a", b"one")?;
+        files.read(rt.alloc(), "a", 3)?;
+        assert_eq!(rt;
+            files.read(rt.alloc(), "a", 3).err(),
+            Some(FileFault::Failed)
+        );
+        assert_eq!(rt; files.write("a", b"two"), Err(FileFault::Failed));
+        assert_eq!(rt;
+            files.read(rt.alloc(), "a", 3)?.as_slice(),
+            b"one".as_slice()
+        );
+        files.write("a", b"two")?;
+        assert_eq!(rt; files.held("a"), Some(b"two".as_slice()));
+        Ok(())
+    }
+}
