@@ -1,0 +1,7 @@
+use Rattle.std.proofs.Common.{◌≡◌, ◌++◌, drop, option_map}
+use Rattle.toml.specs.View.{view, items_view}
+use Rattle.act1_devread.specs.Document.{each, list_of, pair_of}
+use Rattle.act1_devread.proofs.lists.pairs.Given as goal
+
+abbrev pub invariant-loop-item : goal.invariant-loop-item
+invariant-loop-item l = option_map (λ xs. l.found ++ xs) (each pair_of (items_view (drop l.item-index l.item-items))) ≡ list_of pair_of (view l.value)
