@@ -1,0 +1,5 @@
+pub mod Constant
+pub mod Firing
+pub mod Meaning
+pub mod Range
+pub mod Spots
