@@ -1,0 +1,5 @@
+pub mod Array
+pub mod OneCircuit
+pub mod Rules
+pub mod Text
+pub mod Wires

@@ -1,0 +1,353 @@
+ghost use Rattle.std.specs.Prelude.{◌≡◌, ◌++◌, ◌∷◌, [], map, IfOk, OnOk};
+ghost use Rattle.std.specs.Fmt.{decimal};
+ghost use Rattle.std.specs.List.{flat_map};
+ghost use Rattle.act1_base.specs.Words.{text_line, text_of_lines};
+ghost use Rattle.act1_fuses.specs.Text.{fuse_text, clock_lines, port_words, start_words, site_words, line_words, track_word, pin_name};
+
+use crate::fuses::{FuseFile, Port, StartAt};
+use act1_base::{Memory, Name, write_number};
+use act1_device::{Line, Site, Track};
+use std::alloc::Global;
+
+/// The one text of an antifuse file, which is lines of words. One space parts the words of a line,
+/// a line feed ends each line, and numbers are decimal without leading zeros:
+///
+/// ```text
+/// act1 fuses 1
+/// device NAME
+/// clock NAME                            where the file has a clock
+/// in PAD NAME                           for each input
+/// out PAD NAME                          for each output
+/// start ROW COLUMN INIT NAME            for each start
+/// fuse CHANNEL TRACK along INDEX        for each site, one of these five
+/// fuse CHANNEL TRACK pin ROW COLUMN PIN
+/// fuse CHANNEL TRACK out ROW COLUMN
+/// fuse CHANNEL TRACK long COLUMN INDEX
+/// fuse CHANNEL TRACK pad PAD
+/// end
+/// ```
+///
+/// TRACK is a number, `gnd`, `vcc` or `clk`, and PIN is A0, A1, SA, B0, B1, SB, S0 or S1. The format
+/// is this project's own.
+///
+/// Whether the file keeps the rules of antifuse files isn't looked at: what it holds is written, in
+/// its order. A pin above 7, which no device has, is written as an empty word. The one error is
+/// `Memory`, where no memory is left for the text.
+pub fn write_fuses(alloc: Global, file: &FuseFile) -> Result<Vec<u8>, Memory>
+    ensures { IfOk result (λ text. text.items ≡ fuse_text file.now) }
+{
+    let mut text = Vec::new(alloc);
+    text.extend_from_slice(b"act1 fuses 1\n")?;
+    write_name(&mut text, b"device", &file.device)?;
+    write_clock(&mut text, &file.clock)?;
+    write_ports(&mut text, b"in", file.ins.as_slice())?;
+    write_ports(&mut text, b"out", file.outs.as_slice())?;
+    write_starts(&mut text, file.starts.as_slice())?;
+    write_sites(&mut text, file.sites.as_slice())?;
+    text.extend_from_slice(b"end\n")?;
+    Ok(text)
+}
+
+// Adds a blank and a word. The blank goes with the word behind it, so that nothing has to know which
+// word is the last of its line.
+fn add_word(text: &mut Vec<u8>, word: &[u8]) -> Result<(), Memory>
+    ensures { OnOk result (text.new.items ≡ text.old.items ++ 32 ∷ word.now) }
+{
+    text.push(b' ')?;
+    text.extend_from_slice(word)?;
+    Ok(())
+}
+
+// Adds a blank and a number.
+fn add_number(text: &mut Vec<u8>, n: u64) -> Result<(), Memory>
+    ensures { OnOk result (text.new.items ≡ text.old.items ++ 32 ∷ decimal n) }
+{
+    text.push(b' ')?;
+    write_number(text, n)
+}
+
+// Adds the line of a word and a name.
+fn write_name(text: &mut Vec<u8>, word: &[u8], name: &Name) -> Result<(), Memory>
+    ensures { OnOk result (text.new.items ≡ text.old.items ++ text_line (word.now ∷ name.now ∷ [])) }
+{
+    text.extend_from_slice(word)?;
+    add_word(text, name.as_bytes())?;
+    text.push(b'\n')?;
+    Ok(())
+}
+
+// Adds the clock's line, if there is a clock.
+fn write_clock(text: &mut Vec<u8>, clock: &Option<Name>) -> Result<(), Memory>
+    ensures { OnOk result (text.new.items ≡ text.old.items ++ text_of_lines (clock_lines clock.now)) }
+{
+    match clock {
+        Some(name) => write_name(text, b"clock", name),
+        None => Ok(()),
+    }
+}
+
+// Adds the line of an input or an output.
+fn write_port(text: &mut Vec<u8>, word: &[u8], port: &Port) -> Result<(), Memory>
+    ensures { OnOk result (text.new.items ≡ text.old.items ++ text_line (port_words word.now port.now)) }
+{
+    text.extend_from_slice(word)?;
+    add_number(text, u64::from(port.pad))?;
+    add_word(text, port.name.as_bytes())?;
+    text.push(b'\n')?;
+    Ok(())
+}
+
+// Adds the lines of the inputs or of the outputs.
+#[tactic(auto, using(crate::proofs::TextLines::text_more))]
+fn write_ports(text: &mut Vec<u8>, word: &[u8], ports: &[Port]) -> Result<(), Memory>
+    ensures { OnOk result (text.new.items ≡ text.old.items ++ text_of_lines (map (port_words word.now) ports.now)) }
+{
+    for port in ports {
+        write_port(text, word, port)?;
+    }
+    Ok(())
+}
+
+// Adds the line of a start.
+fn write_start(text: &mut Vec<u8>, start: &StartAt) -> Result<(), Memory>
+    ensures { OnOk result (text.new.items ≡ text.old.items ++ text_line (start_words start.now)) }
+{
+    text.extend_from_slice(b"start")?;
+    add_number(text, u64::from(start.spot.row))?;
+    add_number(text, u64::from(start.spot.column))?;
+    add_number(text, u64::from(start.init))?;
+    add_word(text, start.name.as_bytes())?;
+    text.push(b'\n')?;
+    Ok(())
+}
+
+// Adds the lines of the starts.
+#[tactic(auto, using(crate::proofs::TextLines::text_more))]
+fn write_starts(text: &mut Vec<u8>, starts: &[StartAt]) -> Result<(), Memory>
+    ensures { OnOk result (text.new.items ≡ text.old.items ++ text_of_lines (map start_words starts.now)) }
+{
+    for start in starts {
+        write_start(text, start)?;
+    }
+    Ok(())
+}
+
+// Adds a blank and the word of a track.
+fn add_track(text: &mut Vec<u8>, track: Track) -> Result<(), Memory>
+    ensures { OnOk result (text.new.items ≡ text.old.items ++ 32 ∷ track_word track) }
+{
+    match track {
+        Track::Signal(number) => add_number(text, u64::from(number)),
+        Track::Gnd => add_word(text, b"gnd"),
+        Track::Vcc => add_word(text, b"vcc"),
+        Track::Clk => add_word(text, b"clk"),
+    }
+}
+
+// The name of a pin, by its number.
+fn name_of_pin(pin: u8) -> &'static [u8]
+    ensures { result.now ≡ pin_name pin }
+{
+    match pin {
+        0 => b"A0",
+        1 => b"A1",
+        2 => b"SA",
+        3 => b"B0",
+        4 => b"B1",
+        5 => b"SB",
+        6 => b"S0",
+        7 => b"S1",
+        _ => b"",
+    }
+}
+
+// Adds the words of a vertical line, each after a blank.
+fn add_vertical_line(text: &mut Vec<u8>, line: Line) -> Result<(), Memory>
+    ensures { OnOk result (text.new.items ≡ text.old.items ++ flat_map (λ word. 32 ∷ word) (line_words line)) }
+{
+    match line {
+        Line::Pin { row, column, pin } => {
+            add_word(text, b"pin")?;
+            add_number(text, u64::from(row))?;
+            add_number(text, u64::from(column))?;
+            add_word(text, name_of_pin(pin))
+        }
+        Line::Out { row, column } => {
+            add_word(text, b"out")?;
+            add_number(text, u64::from(row))?;
+            add_number(text, u64::from(column))
+        }
+        Line::Long { column, index } => {
+            add_word(text, b"long")?;
+            add_number(text, u64::from(column))?;
+            add_number(text, u64::from(index))
+        }
+        Line::Pad { pad } => {
+            add_word(text, b"pad")?;
+            add_number(text, u64::from(pad))
+        }
+    }
+}
+
+// Adds the line of the antifuse at a site.
+fn write_site(text: &mut Vec<u8>, site: Site) -> Result<(), Memory>
+    ensures { OnOk result (text.new.items ≡ text.old.items ++ text_line (site_words site)) }
+{
+    text.extend_from_slice(b"fuse")?;
+    match site {
+        Site::Along {
+            channel,
+            track,
+            index,
+        } => {
+            add_number(text, u64::from(channel))?;
+            add_number(text, u64::from(track))?;
+            add_word(text, b"along")?;
+            add_number(text, u64::from(index))?;
+        }
+        Site::Cross {
+            channel,
+            track,
+            line,
+        } => {
+            add_number(text, u64::from(channel))?;
+            add_track(text, track)?;
+            add_vertical_line(text, line)?;
+        }
+    }
+    text.push(b'\n')?;
+    Ok(())
+}
+
+// Adds the lines of the antifuses at these sites.
+#[tactic(auto, using(crate::proofs::TextLines::text_more))]
+fn write_sites(text: &mut Vec<u8>, sites: &[Site]) -> Result<(), Memory>
+    ensures { OnOk result (text.new.items ≡ text.old.items ++ text_of_lines (map site_words sites.now)) }
+{
+    for site in sites {
+        write_site(text, *site)?;
+    }
+    Ok(())
+}
+
+#[cfg(test)]
+mod tests {
+    use super::*;
+    use act1_base::Items;
+    use act1_circuit::Spot;
+    use std::test::Fail;
+
+    fn ports(alloc: Global, ports: &[(u16, &[u8])]) -> Result<Items<Port>, Memory> {
+        let mut items = Items::new(alloc);
+        for (pad, name) in ports {
+            items.push(Port {
+                pad: *pad,
+                name: Name::new(alloc, name)?,
+            })?;
+        }
+        Ok(items)
+    }
+
+    #[test]
+    fn writes_the_constants_of_the_tiny_device(rt: HostRuntime) -> Result<(), Fail> {
+        let alloc = rt.alloc();
+        let sites = [
+            Site::Cross {
+                channel: 0,
+                track: Track::Gnd,
+                line: Line::Pad { pad: 1 },
+            },
+            Site::Cross {
+                channel: 0,
+                track: Track::Vcc,
+                line: Line::Pad { pad: 0 },
+            },
+        ];
+        let file = FuseFile {
+            device: Name::new(alloc, b"tiny")?,
+            clock: None,
+            ins: Items::new(alloc),
+            outs: ports(alloc, &[(0, b"y"), (1, b"z")])?,
+            starts: Items::new(alloc),
+            sites: Items::from_slice(alloc, &sites)?,
+        };
+        let text = write_fuses(alloc, &file)?;
+        let wanted = b"act1 fuses 1\n\
+            device tiny\n\
+            out 0 y\n\
+            out 1 z\n\
+            fuse 0 gnd pad 1\n\
+            fuse 0 vcc pad 0\n\
+            end\n";
+        assert_eq!(rt; text.as_slice(), wanted.as_slice());
+        Ok(())
+    }
+
+    #[test]
+    fn writes_each_form_of_line(rt: HostRuntime) -> Result<(), Fail> {
+        let alloc = rt.alloc();
+        let mut starts = Items::new(alloc);
+        starts.push(StartAt {
+            spot: Spot { row: 1, column: 12 },
+            init: 2,
+            name: Name::new(alloc, b"held")?,
+        })?;
+        let sites = [
+            Site::Along {
+                channel: 0,
+                track: 1,
+                index: 2,
+            },
+            Site::Cross {
+                channel: 0,
+                track: Track::Signal(63),
+                line: Line::Pin {
+                    row: 31,
+                    column: 7,
+                    pin: 7,
+                },
+            },
+            Site::Cross {
+                channel: 1,
+                track: Track::Gnd,
+                line: Line::Out { row: 0, column: 63 },
+            },
+            Site::Cross {
+                channel: 2,
+                track: Track::Vcc,
+                line: Line::Long {
+                    column: 5,
+                    index: 31,
+                },
+            },
+            Site::Cross {
+                channel: 32,
+                track: Track::Clk,
+                line: Line::Pad { pad: 4095 },
+            },
+        ];
+        let file = FuseFile {
+            device: Name::new(alloc, b"broad")?,
+            clock: Some(Name::new(alloc, b"tick")?),
+            ins: ports(alloc, &[(3, b"a")])?,
+            outs: ports(alloc, &[(10, b"q[0]")])?,
+            starts,
+            sites: Items::from_slice(alloc, &sites)?,
+        };
+        let text = write_fuses(alloc, &file)?;
+        let wanted = b"act1 fuses 1\n\
+            device broad\n\
+            clock tick\n\
+            in 3 a\n\
+            out 10 q[0]\n\
+            start 1 12 2 held\n\
+            fuse 0 1 along 2\n\
+            fuse 0 63 pin 31 7 S1\n\
+            fuse 1 gnd out 0 63\n\
+            fuse 2 vcc long 5 31\n\
+            fuse 32 clk pad 4095\n\
+            end\n";
+        assert_eq!(rt; text.as_slice(), wanted.as_slice());
+        Ok(())
+    }
+}
