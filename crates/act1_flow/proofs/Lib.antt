@@ -1,0 +1,5 @@
+pub mod ConstantArray
+pub mod NetFacts
+pub mod PortLists
+pub mod RailLists
+pub mod TestNets

@@ -1,0 +1,5 @@
+pub mod Constant
+pub mod File
+pub mod Flow
+pub mod Rails
+pub mod Realizes
