@@ -1,0 +1,7 @@
+pub mod Command
+pub mod Ending
+pub mod Outcome
+pub mod Printing
+pub mod Reading
+pub mod Run
+pub mod Stop

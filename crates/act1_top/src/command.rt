@@ -1,0 +1,20 @@
+use crate::word::Word;
+
+/// What the words ask for.
+#[derive(Debug, Drop)]
+pub enum Command {
+    /// The words are no command, or one that isn't built yet.
+    Unknown,
+    /// Takes the netlist under `blif` to an antifuse file for the device under `device`. The file is
+    /// written under `fuses`; a report that a netlist can't be routed would be under `report`.
+    Flow {
+        /// The device file.
+        device: Word,
+        /// The netlist.
+        blif: Word,
+        /// The antifuse file, which is written at status 0.
+        fuses: Word,
+        /// The report, which isn't written today.
+        report: Word,
+    },
+}

@@ -1,0 +1,38 @@
+ghost use Rattle.std.specs.Prelude.{◌≡◌, IfOk};
+
+use act1_base::Memory;
+use std::alloc::Global;
+use std::marker::Model;
+
+/// A word of the command line, which contracts see as its bytes.
+#[derive(Debug, Drop)]
+pub struct Word {
+    text: String,
+}
+
+impl Model for Word {
+    ghost use Rattle.std.specs.Prelude.{List, ℕ};
+    ghost use Rattle.std.specs.String.{string_bytes};
+
+    ghost Value = { List ℕ };
+
+    ghost view = { λ w. string_bytes w.text };
+}
+
+impl Word {
+    /// The word with this text.
+    pub fn new(alloc: Global, text: &str) -> Result<Word, Memory>
+        ensures { IfOk result (λ w. w ≡ text.now) }
+    {
+        Ok(Word {
+            text: String::from_str(alloc, text)?,
+        })
+    }
+
+    /// The text of the word.
+    pub fn as_str(&self) -> &str
+        ensures { result.now ≡ self.now }
+    {
+        self.text.as_str()
+    }
+}

@@ -1,0 +1,47 @@
+ghost use Rattle.std.specs.Prelude.{◌≡◌, map, IfOk};
+ghost use Rattle.std.specs.String.{string_bytes};
+ghost use Rattle.act1_top.specs.Command.{command_of, is_file};
+
+use crate::command::Command;
+use crate::word::Word;
+use act1_base::Memory;
+use std::alloc::Global;
+
+// Whether the word begins with no `-`.
+fn is_file(word: &String) -> bool
+    ensures { result ≡ is_file (string_bytes word.now) }
+{
+    match word.as_str().as_bytes().first() {
+        Some(byte) => *byte != b'-',
+        None => true,
+    }
+}
+
+fn word_of(alloc: Global, word: &String) -> Result<Word, Memory>
+    ensures { IfOk result (λ w. w ≡ string_bytes word.now) }
+{
+    Word::new(alloc, word.as_str())
+}
+
+/// The command that the words ask for, or `Unknown` where they ask for none: exactly four words after
+/// `flow`, of which none begins with `-`.
+pub fn command_of(alloc: Global, words: &[String]) -> Result<Command, Memory>
+    ensures { IfOk result (λ command. command ≡ command_of (map string_bytes words.now)) }
+{
+    match words {
+        [word, device, blif, fuses, report] => {
+            let files = is_file(device) && is_file(blif) && is_file(fuses) && is_file(report);
+            if word.as_str() == "flow" && files {
+                Ok(Command::Flow {
+                    device: word_of(alloc, device)?,
+                    blif: word_of(alloc, blif)?,
+                    fuses: word_of(alloc, fuses)?,
+                    report: word_of(alloc, report)?,
+                })
+            } else {
+                Ok(Command::Unknown)
+            }
+        }
+        _ => Ok(Command::Unknown),
+    }
+}
