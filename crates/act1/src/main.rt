@@ -1,0 +1,50 @@
+//! The program act1: real files, standard output and the words of the command line for `run`.
+#![tactic(auto)]
+
+mod real_files;
+mod stdout_sink;
+#[cfg(test)]
+mod tests;
+
+use act1_outside::NoHelpers;
+use act1_top::run;
+use real_files::RealFiles;
+use std::alloc::{AllocError, Global};
+use std::process::ExitCode;
+use std::rt::{Env, Files};
+use std::{env, io};
+use stdout_sink::StdoutSink;
+
+// The status where there is no memory for the words.
+const MEMORY: u8 = 15;
+
+// The words after the program's name. Where they can't be had, as where one of them isn't UTF-8,
+// there are none, which is no command.
+fn words<R: Env + AllocGlobal>(rt: &R) -> Result<Vec<String>, AllocError> {
+    match env::args(rt) {
+        Ok(args) => args.skip(1).collect(rt.alloc()),
+        Err(e) => {
+            if e.kind() == io::ErrorKind::OutOfMemory {
+                Err(AllocError)
+            } else {
+                Ok(Vec::new(rt.alloc()))
+            }
+        }
+    }
+}
+
+// Runs the words of the command line, and answers the status.
+fn status<R: Env + Files + Print + AllocGlobal>(rt: &R) -> u8 {
+    let alloc: Global = rt.alloc();
+    let mut files = RealFiles::new(rt, alloc);
+    let mut out = StdoutSink::new(rt);
+    let mut helpers = NoHelpers::new();
+    match words(rt) {
+        Ok(words) => run(alloc, &words, &mut files, &mut out, &mut helpers),
+        Err(_) => MEMORY,
+    }
+}
+
+fn main(rt: HostRuntime) -> ExitCode {
+    ExitCode::from(status(&rt))
+}
