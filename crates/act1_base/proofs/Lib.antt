@@ -1,4 +1,5 @@
 pub mod LineCuts
+pub mod LinkAdded
 pub mod Paths
 pub mod Samples
 pub mod Spelling

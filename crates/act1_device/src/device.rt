@@ -71,7 +71,7 @@ pub enum Track {
 }
 
 /// A vertical line: an input pin of a module, a module's output, a long wire of a column, or a pad.
-#[derive(Clone, Copy, Debug, PartialEq, Eq)]
+#[derive(Clone, Copy, Debug, PartialEq, Eq, Hash)]
 pub enum Line {
     /// The pin of this number, 0 to 7, of the module at a row and column.
     Pin { row: u8, column: u8, pin: u8 },
@@ -103,7 +103,7 @@ pub enum Site {
 
 /// A wire: the ground, power or clock track, which each run through all channels as one wire, a
 /// segment of a signal track, or a vertical line.
-#[derive(Clone, Copy, Debug, PartialEq, Eq)]
+#[derive(Clone, Copy, Debug, PartialEq, Eq, Hash)]
 pub enum Wire {
     /// The ground track.
     Gnd,

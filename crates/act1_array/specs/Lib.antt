@@ -1,0 +1,6 @@
+pub mod Classes
+pub mod Gives
+pub mod Network
+pub mod Owners
+pub mod Parts
+pub mod Spots
