@@ -1,6 +1,11 @@
 pub mod LineCuts
 pub mod LinkAdded
+pub mod ListGets
+pub mod NumberWords
 pub mod Paths
 pub mod Samples
 pub mod Spelling
+pub mod SplitLoops
+pub mod TextLaws
 pub mod TextLines
+pub mod TextReads

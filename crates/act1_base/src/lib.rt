@@ -8,9 +8,13 @@ mod name;
 mod number;
 #[cfg(test)]
 mod tests;
+mod texts;
+mod words;
 
 pub use items::Items;
 pub use lines::Lines;
 pub use memory::Memory;
 pub use name::Name;
 pub use number::{NumberFault, read_number, write_number};
+pub use texts::{Format, Stop, TextFault, pieces_of, read_text};
+pub use words::{capped_number, is_name, is_number, words_of};

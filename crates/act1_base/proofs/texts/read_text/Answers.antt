@@ -1,0 +1,13 @@
+use Rattle.std.proofs.Common.{sym, ap, ◌∙◌, length}
+use Rattle.act1_base.proofs.TextReads.{few_lines, pieces_are, whole_read}
+use Rattle.act1_base.proofs.texts.read_text.Goals as goal
+
+pub read_pieces-requires : goal.read_pieces-requires
+read_pieces-requires g c =
+    few_lines c.args.bytes.now c.in_ok-pieces.pieces.items c.in-Some.lines.now c.in_ok-pieces.ensures (c.in-Some.ensures.cases.1 ∙ ap length c.deref.ensures.value) c.requires
+
+pub returns : goal.returns
+returns g c =
+    whole_read (g.F.Format.rules c.args.format.now) c.args.bytes.now _ c.in-Some.rest.now.now c.read_pieces.result
+    (pieces_are c.args.bytes.now c.in_ok-pieces.pieces.items c.in-Some.lines.now c.in-Some.rest.now c.in_ok-pieces.ensures (sym c.deref.ensures.value ∙ c.in-Some.ensures.cases.0))
+    c.read_pieces.ensures

@@ -1,0 +1,156 @@
+ghost use Rattle.std.specs.Prelude.{◌≡◌, ◌≤◌, ◌<◌, ◌+◌, ◌^◌, ◌==◌, length, map, IfOk};
+ghost use Rattle.std.specs.List.{slice_split};
+ghost use Rattle.act1_base.specs.Texts.{Gives, numbered, reading, read_on, at_end};
+ghost use Rattle.act1_base.specs.declared.texts.Stop.TheVariants.{Memory};
+
+use crate::memory::Memory;
+use std::alloc::{AllocError, AllocFailed, Global};
+
+/// Why something stopped: by a fault in what it read, or since no memory was left.
+#[derive(Clone, Copy, Debug, PartialEq, Eq)]
+pub enum Stop<F> {
+    /// What was read has this fault.
+    Fault(F),
+    /// The call found no memory.
+    Memory,
+}
+
+impl<F> From<Memory> for Stop<F> {
+    ghost from_gives = { λ _ e. e ≡ Memory };
+
+    fn from(_: Memory) -> Self {
+        Stop::Memory
+    }
+}
+
+impl<F> From<AllocError> for Stop<F> {
+    ghost from_gives = { λ _ e. e ≡ Memory };
+
+    fn from(_: AllocError) -> Self {
+        Stop::Memory
+    }
+}
+
+/// The first faulty line of a text, and what is wrong with it.
+#[derive(Clone, Copy, Debug, PartialEq, Eq)]
+pub struct TextFault<K> {
+    /// The number of the line, from 1. Where the text is cut it is the line after the last.
+    pub line: u32,
+    /// What is wrong with it.
+    pub kind: K,
+}
+
+/// A format of texts that are read line by line.
+///
+/// A format says where a reading starts, what each line does, what is wrong with a line that lacks
+/// its line feed, and whether the text may end after the lines so far. `read_text` then reads a text
+/// of the format, and answers the state after the last line, or the first faulty line. What the
+/// lines do is a total function of the state and the line, so a format owes one proof alone: that
+/// the texts which leave a whole state are those that its writer writes.
+pub trait Format {
+    ghost use Rattle.std.specs.Prelude.{◌≡◌, IfOk};
+    ghost use Rattle.act1_base.specs.Texts.{Gives, LineRules};
+
+    /// What is kept of the lines so far.
+    type State;
+
+    /// What may be wrong with a line.
+    type Kind;
+
+    /// What the lines do.
+    ghost rules: { Self → LineRules Self.State Self.Kind };
+
+    /// The state before the first line.
+    fn start(&self) -> Result<Self::State, Memory>
+        ensures { IfOk result (λ state. state ≡ (rules self.now).start) };
+
+    /// The state after one line more, which is given without its line feed.
+    fn after(&self, state: Self::State, line: &[u8]) -> Result<Self::State, Stop<Self::Kind>>
+        ensures { Gives result ((rules self.now).after state line.now) };
+
+    /// What is wrong with a last line that lacks its line feed.
+    fn unended(&self, state: Self::State) -> Self::Kind
+        ensures { result ≡ (rules self.now).unended state };
+
+    /// The state, if the text may end there, and else what is wrong with its end.
+    fn end(&self, state: Self::State) -> Result<Self::State, Self::Kind>
+        ensures { result ≡ (rules self.now).end state };
+}
+
+/// The pieces of the bytes that line feeds part: the lines, and what stands behind the last line
+/// feed, which may be nothing.
+pub fn pieces_of(alloc: Global, bytes: &[u8]) -> Result<Vec<&[u8]>, AllocError>
+    ensures { IfOk result (λ pieces. map (λ piece. piece.now) pieces.items ≡ slice_split (λ b. b == 10) bytes.now) }
+{
+    bytes.split(|b| *b == b'\n').collect(alloc)
+}
+
+// One line more, with its number at a fault.
+fn after_line<F: Format>(
+    format: &F,
+    state: F::State,
+    number: u32,
+    line: &[u8],
+) -> Result<F::State, Stop<TextFault<F::Kind>>>
+    ensures { Gives result (numbered number ((F.rules format.now).after state line.now)) }
+{
+    match format.after(state, line) {
+        Ok(next) => Ok(next),
+        Err(Stop::Fault(kind)) => Err(Stop::Fault(TextFault { line: number, kind })),
+        Err(Stop::Memory) => Err(Stop::Memory),
+    }
+}
+
+// What stands behind the last line feed.
+fn at_end<F: Format>(
+    format: &F,
+    state: F::State,
+    number: u32,
+    rest: &[u8],
+) -> Result<F::State, Stop<TextFault<F::Kind>>>
+    ensures { Gives result (numbered number (at_end (F.rules format.now) state rest.now)) }
+{
+    if !rest.is_empty() {
+        let kind = format.unended(state);
+        return Err(Stop::Fault(TextFault { line: number, kind }));
+    }
+    match format.end(state) {
+        Ok(whole) => Ok(whole),
+        Err(kind) => Err(Stop::Fault(TextFault { line: number, kind })),
+    }
+}
+
+// The lines in their order, up to the first fault, and what stands behind them.
+fn read_pieces<F: Format>(
+    format: &F,
+    lines: &[&[u8]],
+    rest: &[u8],
+) -> Result<F::State, Stop<TextFault<F::Kind>>>
+    requires { length lines.now + 1 < 2 ^ 32 }
+    ensures { Gives result (read_on (F.rules format.now) (F.rules format.now).start 1 (map (λ line. line.now) lines.now) rest.now) }
+{
+    let mut state = format.start()?;
+    let mut number = 1;
+    for line in lines {
+        state = after_line(format, state, number, line)?;
+        number += 1;
+    }
+    at_end(format, state, number, rest)
+}
+
+/// The state that the lines of a text leave, or its first faulty line: the first that the format
+/// refuses or that lacks its line feed, or the line after the last where the text may not end there.
+pub fn read_text<F: Format>(
+    alloc: Global,
+    format: &F,
+    bytes: &[u8],
+) -> Result<F::State, Stop<TextFault<F::Kind>>>
+    requires { length bytes.now ≤ 4000000000 }
+    ensures { Gives result (reading (F.rules format.now) bytes.now) }
+{
+    let pieces = pieces_of(alloc, bytes)?;
+    let Some((rest, lines)) = pieces.split_last() else {
+        return Err(Stop::Memory);
+    };
+    read_pieces(format, lines, rest)
+}
