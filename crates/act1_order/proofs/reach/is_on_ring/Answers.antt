@@ -1,0 +1,23 @@
+use Rattle.std.proofs.Common.{ℕ, List, arith, refl, subst}
+use Rattle.std.proofs.lemmas.Grind.{common_steps}
+use Rattle.act1_order.specs.Reach.{Marks}
+use Rattle.act1_order.specs.declared.reach.Reached.{Reached}
+use Rattle.act1_order.proofs.ReachLemmas.{reach_start, reach_step, next_low, mark_tells}
+use Rattle.act1_order.proofs.reach.is_on_ring.Goals as goal
+
+pub loop-next-init : goal.loop-next-init
+loop-next-init c =
+    reach_start c.args.reads.now c.args.vertex c.in_ok-reached.reached c.mark_all.new.self c.in_ok-reached.ensures.0 c.in_ok-reached.ensures.1
+    (subst (λ (ws : List ℕ). Marks ws c.in_ok-reached.reached c.mark_all.new.self) c.reads_of.ensures.own c.in_ok-mark_all.ensures)
+
+pub reads_of-requires-in-Some-clause-low : goal.reads_of-requires-in-Some-clause-low
+reads_of-requires-in-Some-clause-low c = next_low c.args.reads.now c.args.vertex c.in-Some.next c.loop-next.reached _ c.loop-next.invariant c.in-Some.ensures.items
+
+pub loop-next-preserved : goal.loop-next-preserved
+loop-next-preserved c =
+    let mid : Reached = record { marks = c.loop-next.reached.marks; left = c.pop.new.self } in
+    reach_step c.args.reads.now c.args.vertex c.in-Some.next c.loop-next.reached mid c.mark_all-in-Some.new.self c.loop-next.invariant refl c.in-Some.ensures.items
+    (subst (λ (ws : List ℕ). Marks ws mid c.mark_all-in-Some.new.self) c.reads_of-in-Some.ensures.own c.in_ok-mark_all-2.ensures)
+
+pub returns : goal.returns
+returns c = mark_tells c.args.reads.now c.args.vertex c.loop-next.reached c.loop-next.invariant (let e = c.in_default.ensures.cases.0 in grind (arith, common_steps)) c.is_marked.result c.is_marked.ensures

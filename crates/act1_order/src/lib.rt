@@ -1,0 +1,14 @@
+//! Directed graphs of numbered vertices: an order in which each vertex stands after those that it
+//! reads, or the first vertex on a ring.
+#![tactic(auto)]
+
+mod graph;
+mod order;
+mod ordering;
+mod reach;
+mod search;
+#[cfg(test)]
+mod tests;
+
+pub use order::sources_first;
+pub use ordering::Ordering;
