@@ -1,12 +1,14 @@
-//! The logic module of the array and the covers of a netlist, with their values.
+//! The logic module of the array, tables, and the covers of a netlist, with their values.
 #![tactic(auto)]
 
 mod cover;
 mod module;
+mod table;
 #[cfg(test)]
 mod tests;
 mod value;
 
 pub use cover::{Cover, Mark, Row};
 pub use module::module_value;
+pub use table::Table;
 pub use value::cover_value;
