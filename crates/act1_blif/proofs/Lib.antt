@@ -1,2 +1,9 @@
+pub mod Evaluated
+pub mod Existence
+pub mod NetFacts
+pub mod NetGraph
 pub mod OneValuation
 pub mod Samples
+pub mod TestNets
+pub mod TextGrows
+pub mod Texts

@@ -7,39 +7,39 @@ use Rattle.act1_blif.specs.declared.blif.Node.{Node}
 use Rattle.act1_blif.specs.Run.{Fits, node_value, signal}
 use Rattle.act1_blif.specs.Rules.{HasLevels}
 
-front : (a b : List Bool) (s : ℕ) → s < length a → slice_index_or (a ++ b) s false ≡ slice_index_or a s false
+pub front : (a b : List Bool) (s : ℕ) → s < length a → slice_index_or (a ++ b) s false ≡ slice_index_or a s false
 front [] b s low = absurd (omega arith)
 front (c ∷ a) b zero low = refl
 front (c ∷ a) b (suc s) low = front a b s (omega arith)
 
-back : (a b : List Bool) (s j : ℕ) → s ≡ length a + j → slice_index_or (a ++ b) s false ≡ slice_index_or b j false
+pub back : (a b : List Bool) (s j : ℕ) → s ≡ length a + j → slice_index_or (a ++ b) s false ≡ slice_index_or b j false
 back [] b s j e = let same : s ≡ j = omega arith in ap (λ (k : ℕ). slice_index_or b k false) same
 back (c ∷ a) b zero j e = absurd (omega arith)
 back (c ∷ a) b (suc s) j e = back a b s j (omega arith)
 
-long : (a b : List Bool) → length (a ++ b) ≡ length a + length b
+pub long : (a b : List Bool) → length (a ++ b) ≡ length a + length b
 long [] b = omega arith
 long (c ∷ a) b = let r = long a b in omega arith
 
-at_node : (f : Node → Bool) (nodes : List Node) (j : ℕ) (node : Node) → slice_get nodes j ≡ Some node → slice_index_or (map f nodes) j false ≡ f node
+pub at_node : (f : Node → Bool) (nodes : List Node) (j : ℕ) (node : Node) → slice_get nodes j ≡ Some node → slice_index_or (map f nodes) j false ≡ f node
 at_node f [] j node e = cc
 at_node f (n ∷ nodes) zero node e = cc
 at_node f (n ∷ nodes) (suc j) node e = at_node f nodes j node e
 
-has_node : (nodes : List Node) (j : ℕ) → j < length nodes → (node : Node) × (slice_get nodes j ≡ Some node)
+pub has_node : (nodes : List Node) (j : ℕ) → j < length nodes → (node : Node) × (slice_get nodes j ≡ Some node)
 has_node [] j low = absurd (omega arith)
 has_node (n ∷ nodes) zero low = (n, refl)
 has_node (n ∷ nodes) (suc j) low = has_node nodes j (omega arith)
 
-map_same : (f g : ℕ → Bool) (xs : List ℕ) → ((s : ℕ) → Contains xs s → f s ≡ g s) → map f xs ≡ map g xs
+pub map_same : (f g : ℕ → Bool) (xs : List ℕ) → ((s : ℕ) → Contains xs s → f s ≡ g s) → map f xs ≡ map g xs
 map_same f g [] h = refl
 map_same f g (x ∷ xs) h = ap (λ (y : Bool). y ∷ map f xs) (h x (0, omega arith, refl)) ∙ ap (λ (ys : List Bool). g x ∷ ys) (map_same f g xs (λ s c. h s (suc c.0, let low = c.1 in omega arith, c.2)))
 
-map_nodes : (f g : Node → Bool) (nodes : List Node) → ((k : ℕ) (node : Node) → slice_get nodes k ≡ Some node → f node ≡ g node) → map f nodes ≡ map g nodes
+pub map_nodes : (f g : Node → Bool) (nodes : List Node) → ((k : ℕ) (node : Node) → slice_get nodes k ≡ Some node → f node ≡ g node) → map f nodes ≡ map g nodes
 map_nodes f g [] h = refl
 map_nodes f g (n ∷ nodes) h = ap (λ (y : Bool). y ∷ map f nodes) (h 0 n refl) ∙ ap (λ (ys : List Bool). g n ∷ ys) (map_nodes f g nodes (λ k. h (suc k)))
 
-cases : (s n : ℕ) → (s < n) ⊎ (n ≤ s)
+pub cases : (s n : ℕ) → (s < n) ⊎ (n ≤ s)
 cases s zero = inr (omega arith)
 cases zero (suc n) = inl (omega arith)
 cases (suc s) (suc n) = next (cases s n)

@@ -43,7 +43,7 @@ first_values = (refl, refl)
 constant_values : (value_of zero_cover [] ≡ false) × (value_of one_cover [] ≡ true)
 constant_values = (refl, refl)
 
-some : {X : Type 0} (x y : X) → Some x ≡ Some y → x ≡ y
+pub some : {X : Type 0} (x y : X) → Some x ≡ Some y → x ≡ y
 some x y h = cc
 
 only_zero : (j : ℕ) → ¬ Contains (0 ∷ []) (1 + j)

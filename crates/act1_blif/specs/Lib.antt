@@ -2,3 +2,5 @@ pub mod Names
 pub mod Need
 pub mod Rules
 pub mod Run
+pub mod Text
+pub mod Valuation

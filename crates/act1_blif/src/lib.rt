@@ -1,6 +1,15 @@
-//! Netlists as BLIF has them: latches and covers between signals, and what they show.
+//! Netlists as BLIF has them: latches and covers between signals, what they show, and their one text.
 #![tactic(auto)]
 
 mod blif;
+mod laws;
+mod names;
+#[cfg(test)]
+mod tests;
+mod text;
+mod valuation;
 
 pub use blif::{Blif, Latch, Node};
+pub use laws::one_valuation;
+pub use text::blif_text;
+pub use valuation::values;
