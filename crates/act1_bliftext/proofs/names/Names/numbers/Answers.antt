@@ -1,0 +1,21 @@
+use Rattle.std.proofs.Common.{ℕ, List, ◌≡◌, ◌∙◌, sym, ap, arith}
+use Rattle.std.proofs.lemmas.Result.{err_from_is_err_and}
+use Rattle.act1_bliftext.proofs.Numbering.{names_turn, numbers_turn, numbers_err, numbers_end}
+use Rattle.act1_bliftext.proofs.names.Names.numbers.Goals as goal
+
+pub returns-in_err-number : goal.returns-in_err-number
+returns-in_err-number c =
+    let p = err_from_is_err_and c.from_residual.result c.from_residual.ensures.1 in
+    rw (p.1, p.2) (numbers_err c.loop-word.self c.number.new.self c.number.new.self c.args.words.now c.loop-word.word-index _ c.args.self.now c.in_err-number.field-0.0 c.loop-word-test.true c.in_err-number.ensures c.loop-word.invariant.names)
+
+pub loop-word-preserved : goal.loop-word-preserved
+loop-word-preserved c = record {
+  names = names_turn c.loop-word.self c.number.new.self c.args.words.now c.loop-word.word-index _ c.loop-word.numbers c.in_ok-number.number _ c.loop-word-test.true c.in_ok-number.ensures.0 c.loop-word.invariant.names;
+  numbers = numbers_turn c.loop-word.self c.number.new.self c.args.words.now c.loop-word.word-index _ c.loop-word.numbers c.push.new.self c.in_ok-number.number c.loop-word-test.true c.in_ok-number.ensures.0 c.in_ok-number.ensures.1 c.in_ok-push.ensures.ok c.loop-word.invariant.numbers;
+  few = c.in_ok-number.ensures.2;
+}
+
+pub returns : goal.returns
+returns c =
+    let h = numbers_end c.loop-word.self c.args.self.now c.args.words.now c.loop-word.word-index c.loop-word.numbers c.loop-word-test.false c.loop-word.invariant.names c.loop-word.invariant.numbers in
+    (h.0, h.1, c.loop-word.invariant.few)

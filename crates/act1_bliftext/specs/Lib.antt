@@ -1,0 +1,12 @@
+pub mod Exact
+pub mod Faults
+pub mod Forms
+pub mod Latches
+pub mod Lines
+pub mod Numbering
+pub mod Places
+pub mod Reading
+pub mod Rows
+pub mod Rules
+pub mod Statements
+pub mod Tables

@@ -1,0 +1,264 @@
+ghost use Rattle.std.specs.Prelude.{◌≡◌, ◌≤◌, ◌++◌, ◌∷◌, [], true, length, map, IfOk};
+ghost use Rattle.act1_bliftext.specs.Latches.{control_word, bytes_in};
+ghost use Rattle.act1_bliftext.specs.Reading.{FormGives, IsPort, LatchFollows};
+ghost use Rattle.act1_bliftext.specs.Forms.{model_name};
+ghost use Rattle.act1_bliftext.specs.Statements.{form_in, numbers_in};
+ghost use Rattle.act1_bliftext.specs.declared.form.Form.TheVariants as form;
+
+use crate::fault::BlifKind;
+use crate::form::Form;
+use crate::forms::has_long;
+use crate::latch::{add_latch, latch_rest, latch_statement};
+use crate::open_names::OpenNames;
+use crate::reading::Reading;
+use crate::statement::{NumberedStatement, Statement};
+use act1_base::{Items, Memory, Name, Stop};
+use std::alloc::Global;
+
+// The name behind `.model`.
+fn model_name(alloc: Global, rest: &[&[u8]]) -> Result<Option<Name>, Memory>
+    ensures { IfOk result (λ name. name ≡ model_name (map (λ w. w.now) rest.now)) }
+{
+    match rest {
+        [name, ..] => Ok(Some(Name::new(alloc, name)?)),
+        [] => Ok(None),
+    }
+}
+
+/// The reading after a `.model`.
+pub fn after_model(
+    alloc: Global,
+    reading: Reading,
+    number: u32,
+    rest: &[&[u8]],
+) -> Result<Reading, Stop<BlifKind>>
+    ensures { FormGives form.Model number (map (λ w. w.now) rest.now) reading result }
+{
+    if rest.len() > 1 {
+        return Err(Stop::Fault(BlifKind::Shape));
+    }
+    if reading.is_later {
+        return Err(Stop::Fault(BlifKind::After));
+    }
+    if reading.has_ended {
+        return Err(Stop::Fault(BlifKind::After));
+    }
+    if has_long(rest) {
+        return Err(Stop::Fault(BlifKind::Limit));
+    }
+    let Reading {
+        names,
+        statements,
+        ..
+    } = reading;
+    Ok(Reading {
+        model: model_name(alloc, rest)?,
+        names,
+        statements,
+        open: None,
+        is_later: true,
+        has_ended: false,
+    })
+}
+
+// What a line of ports with these numbers of names says.
+fn port_statement(form: Form, numbers: Items<u16>) -> Statement
+    requires { IsPort form }
+    ensures form { form_in result ≡ form }
+    ensures numbers { numbers_in result ≡ numbers }
+{
+    match form {
+        Form::Inputs => Statement::Inputs(numbers),
+        Form::Outputs => Statement::Outputs(numbers),
+        Form::Clock => Statement::Clock(numbers),
+        _ => unreachable!(),
+    }
+}
+
+/// The reading after `.inputs`, `.outputs` or `.clock`.
+pub fn after_ports(
+    alloc: Global,
+    reading: Reading,
+    form: Form,
+    number: u32,
+    rest: &[&[u8]],
+) -> Result<Reading, Stop<BlifKind>>
+    requires { IsPort form }
+    ensures { FormGives form number (map (λ w. w.now) rest.now) reading result }
+{
+    if reading.has_ended {
+        return Err(Stop::Fault(BlifKind::After));
+    }
+    let Reading {
+        model,
+        mut names,
+        mut statements,
+        ..
+    } = reading;
+    let numbers = names.add(alloc, rest)?;
+    statements.push(NumberedStatement {
+        line: number,
+        statement: port_statement(form, numbers),
+    })?;
+    Ok(Reading {
+        model,
+        names,
+        statements,
+        open: None,
+        is_later: true,
+        has_ended: false,
+    })
+}
+
+// A `.names` with these numbers of names, to which rows may come.
+fn open_names(alloc: Global, line: u32, numbers: Items<u16>) -> OpenNames
+    requires some { 1 ≤ length numbers }
+    requires few { length numbers ≤ 65 }
+    ensures line { result.line ≡ line }
+    ensures numbers { result.inputs ++ result.output ∷ [] ≡ numbers }
+    ensures value { result.value ≡ true }
+    ensures rows { result.rows ≡ [] }
+{
+    let mut inputs = numbers.into_vec();
+    let Some(output) = inputs.pop() else {
+        unreachable!()
+    };
+    OpenNames {
+        line,
+        inputs: Items::from_vec(inputs),
+        output,
+        value: true,
+        rows: Items::new(alloc),
+    }
+}
+
+/// The reading after a `.names`.
+pub fn after_names(
+    alloc: Global,
+    reading: Reading,
+    number: u32,
+    rest: &[&[u8]],
+) -> Result<Reading, Stop<BlifKind>>
+    ensures { FormGives form.Names number (map (λ w. w.now) rest.now) reading result }
+{
+    if rest.is_empty() {
+        return Err(Stop::Fault(BlifKind::Shape));
+    }
+    if reading.has_ended {
+        return Err(Stop::Fault(BlifKind::After));
+    }
+    if rest.len() > 65 {
+        return Err(Stop::Fault(BlifKind::Limit));
+    }
+    let Reading {
+        model,
+        mut names,
+        statements,
+        ..
+    } = reading;
+    let numbers = names.add(alloc, rest)?;
+    Ok(Reading {
+        model,
+        names,
+        statements,
+        open: Some(open_names(alloc, number, numbers)),
+        is_later: true,
+        has_ended: false,
+    })
+}
+
+// The reading after a latch of these names and this init.
+fn with_latch(
+    alloc: Global,
+    reading: Reading,
+    number: u32,
+    input: &[u8],
+    output: &[u8],
+    control: Option<&[u8]>,
+    init: u8,
+) -> Result<Reading, Stop<BlifKind>>
+    ensures { LatchFollows number (input.now ∷ output.now ∷ control_word (bytes_in control.entry)) init reading result }
+{
+    if reading.has_ended {
+        return Err(Stop::Fault(BlifKind::After));
+    }
+    let Reading {
+        model,
+        mut names,
+        mut statements,
+        ..
+    } = reading;
+    let numbers = add_latch(&mut names, alloc, input, output, control)?;
+    statements.push(NumberedStatement {
+        line: number,
+        statement: latch_statement(numbers.as_slice(), init),
+    })?;
+    Ok(Reading {
+        model,
+        names,
+        statements,
+        open: None,
+        is_later: true,
+        has_ended: false,
+    })
+}
+
+// The reading after a latch of these words.
+fn after_latch_words(
+    alloc: Global,
+    reading: Reading,
+    number: u32,
+    input: &[u8],
+    output: &[u8],
+    more: &[&[u8]],
+) -> Result<Reading, Stop<BlifKind>>
+    ensures { FormGives form.Latch number (input.now ∷ output.now ∷ map (λ w. w.now) more.now) reading result }
+{
+    match latch_rest(more) {
+        Ok((control, init)) => with_latch(alloc, reading, number, input, output, control, init),
+        Err(kind) => Err(Stop::Fault(kind)),
+    }
+}
+
+/// The reading after a `.latch`.
+pub fn after_latch(
+    alloc: Global,
+    reading: Reading,
+    number: u32,
+    rest: &[&[u8]],
+) -> Result<Reading, Stop<BlifKind>>
+    ensures { FormGives form.Latch number (map (λ w. w.now) rest.now) reading result }
+{
+    match rest {
+        [input, output, more @ ..] => {
+            after_latch_words(alloc, reading, number, input, output, more)
+        }
+        _ => Err(Stop::Fault(BlifKind::Shape)),
+    }
+}
+
+/// The reading after an `.end`.
+pub fn after_end(reading: Reading, number: u32, rest: &[&[u8]]) -> Result<Reading, Stop<BlifKind>>
+    ensures { FormGives form.End number (map (λ w. w.now) rest.now) reading result }
+{
+    if !rest.is_empty() {
+        return Err(Stop::Fault(BlifKind::Shape));
+    }
+    if reading.has_ended {
+        return Err(Stop::Fault(BlifKind::After));
+    }
+    let Reading {
+        model,
+        names,
+        statements,
+        ..
+    } = reading;
+    Ok(Reading {
+        model,
+        names,
+        statements,
+        open: None,
+        is_later: true,
+        has_ended: true,
+    })
+}

@@ -1,0 +1,10 @@
+ghost use Rattle.act1_bliftext.specs.Exact.{NeverBoth, OneFault, OneOfTwo, OneReading};
+
+/// Laws of the text of BLIF: a text of at most 4,000,000,000 bytes has statements or a first fault of
+/// a line, never both, and one of them alone.
+pub fn texts_are_exact()
+    ensures one_of_two { OneOfTwo }
+    ensures never_both { NeverBoth }
+    ensures one_reading { OneReading }
+    ensures one_fault { OneFault }
+{}
