@@ -1,2 +1,9 @@
 pub mod Constants
+pub mod Exact
+pub mod ExactTexts
+pub mod Faults
 pub mod Lines
+pub mod Netlist
+pub mod Parts
+pub mod Steps
+pub mod Text

@@ -1,0 +1,32 @@
+-- Laws of BLIF texts: they have one netlist or one fault, and never both.
+use Rattle.std.specs.Prelude.{ℕ, ◌≡◌, ◌≤◌, ◌⊎◌, List, length}
+use Rattle.act1_bliftext.specs.declared.fault.BlifKind.{BlifKind}
+use Rattle.act1_blif.specs.declared.blif.Blif.{Blif}
+use Rattle.act1_blifread.specs.Text.{BlifBad, BlifText}
+
+-- the text has a netlist
+pub record HasTextNetlist (bytes : List ℕ) : Type 0 where
+  pub net : Blif
+  pub is : BlifText bytes net
+
+-- the text has a fault
+pub record HasTextFault (bytes : List ℕ) : Type 0 where
+  pub line : ℕ
+  pub kind : BlifKind
+  pub is : BlifBad bytes line kind
+
+-- one at least, where the text isn't too long
+abbrev pub TextNetlistOrFault : Type 0
+TextNetlistOrFault = (bytes : List ℕ) → length bytes ≤ 4000000000 → HasTextNetlist bytes ⊎ HasTextFault bytes
+
+-- never both
+abbrev pub TextNetlistWithoutFault : Type 0
+TextNetlistWithoutFault = (bytes : List ℕ) (net : Blif) (line : ℕ) (kind : BlifKind) → BlifText bytes net → BlifBad bytes line kind → ⊥
+
+-- one netlist
+abbrev pub TextNetlistIsOne : Type 0
+TextNetlistIsOne = (bytes : List ℕ) (net other : Blif) → BlifText bytes net → BlifText bytes other → net ≡ other
+
+-- one fault
+abbrev pub TextFaultIsOne : Type 0
+TextFaultIsOne = (bytes : List ℕ) (line other_line : ℕ) (kind other_kind : BlifKind) → BlifBad bytes line kind → BlifBad bytes other_line other_kind → (line ≡ other_line) × (kind ≡ other_kind)
