@@ -14,8 +14,9 @@ fn value_at(values: &[bool], at: u16) -> bool
     }
 }
 
-// The value of a source at this clock, with these inputs and module bits.
-fn value_of(source: Source, clock: bool, inputs: &[bool], bits: &[bool]) -> bool
+/// The value of a source at this clock, with these inputs and module bits. A bit that is missing
+/// counts as 0. It takes no memory.
+pub fn value_of(source: Source, clock: bool, inputs: &[bool], bits: &[bool]) -> bool
     ensures { result ≡ source_value clock inputs.now bits.now source }
 {
     match source {

@@ -9,5 +9,5 @@ mod laws;
 mod tests;
 
 pub use circuit::{Circuit, Output, Placed, Source, Spot, Start};
-pub use firing::{fire, settle};
+pub use firing::{fire, settle, value_of};
 pub use laws::{constants_mean, every_order_is_enough};

@@ -1,5 +1,10 @@
 pub mod Array
+pub mod Forms
 pub mod OneCircuit
+pub mod OneFile
+pub mod Reading
+pub mod Reads
 pub mod Rules
+pub mod SiteTest
 pub mod Text
 pub mod Wires

@@ -144,8 +144,9 @@ fn add_track(text: &mut Vec<u8>, track: Track) -> Result<(), Memory>
     }
 }
 
-// The name of a pin, by its number.
-fn name_of_pin(pin: u8) -> &'static [u8]
+/// The name of a pin, by its number: A0, A1, SA, B0, B1, SB, S0, S1. It is empty above 7, where no
+/// device has a pin.
+pub fn name_of_pin(pin: u8) -> &'static [u8]
     ensures { result.now ≡ pin_name pin }
 {
     match pin {

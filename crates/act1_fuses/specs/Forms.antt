@@ -1,0 +1,152 @@
+-- The forms of the lines of an antifuse file. The format is this project's own.
+use Rattle.std.specs.Prelude.{ℕ, Bool, ◌&&◌, ◌||◌, ◌+◌, nat_le, if◌then◌else◌, List, [], ◌∷◌, Option, Some, None, codes}
+use Rattle.std.specs.Str.{bytes_eq}
+use Rattle.act1_base.specs.Capped.{is_number, capped}
+use Rattle.act1_base.specs.Names.{is_name}
+use Rattle.act1_device.specs.declared.device.Track.{Track}
+use Rattle.act1_device.specs.declared.device.Track.TheVariants as track
+use Rattle.act1_device.specs.declared.device.Line.{Line}
+use Rattle.act1_device.specs.declared.device.Line.TheVariants as line
+use Rattle.act1_device.specs.declared.device.Site.{Site}
+use Rattle.act1_device.specs.declared.device.Site.TheVariants.{Along, Cross}
+use Rattle.act1_fuses.specs.declared.form.FuseLine.{FuseLine}
+use Rattle.act1_fuses.specs.declared.form.FuseLine.TheVariants as form
+use Rattle.act1_fuses.specs.Text.{pin_names}
+
+-- the number of a word, where all above 65,535 count as 65,536
+abbrev pub number : List ℕ → ℕ
+number word = capped 65536 word
+
+-- the word of a track: a number, or one of three names
+abbrev pub is_track : List ℕ → Bool
+is_track word = bytes_eq word (codes "gnd") || bytes_eq word (codes "vcc") || bytes_eq word (codes "clk") || is_number word
+
+-- the number of a track among those of a channel: signal tracks, then ground, power and clock
+abbrev pub track_order : List ℕ → ℕ
+track_order word = if bytes_eq word (codes "gnd") then 64 else if bytes_eq word (codes "vcc") then 65 else if bytes_eq word (codes "clk") then 66 else number word
+
+-- a number that a field of a site holds
+abbrev pub is_small : ℕ → Bool
+is_small n = nat_le n 255
+
+-- the track, if its number is small
+abbrev pub track_of : List ℕ → Option Track
+track_of word =
+    if bytes_eq word (codes "gnd") then Some track.Gnd
+    else if bytes_eq word (codes "vcc") then Some track.Vcc
+    else if bytes_eq word (codes "clk") then Some track.Clk
+    else if is_small (number word) then Some (track.Signal (number word))
+    else None
+
+-- the place of a word among names that are numbered from n on
+abbrev pub place_among : List ℕ → ℕ → List (List ℕ) → Option ℕ
+place_among word n [] = None
+place_among word n (name ∷ names) = if bytes_eq word name then Some n else place_among word (n + 1) names
+
+-- the number of a pin, by its name
+abbrev pub pin_number : List ℕ → Option ℕ
+pin_number word = place_among word 0 pin_names
+
+-- a pin, if its numbers are small
+abbrev pub pin_at : ℕ → ℕ → ℕ → Option Line
+pin_at row column pin = if is_small row && is_small column then Some (line.Pin row column pin) else None
+
+-- an output, if its numbers are small
+abbrev pub out_at : ℕ → ℕ → Option Line
+out_at row column = if is_small row && is_small column then Some (line.Out row column) else None
+
+-- a long wire, if its numbers are small
+abbrev pub long_at : ℕ → ℕ → Option Line
+long_at column index = if is_small column && is_small index then Some (line.Long column index) else None
+
+-- a pad, if its number is small
+abbrev pub pad_at : ℕ → Option Line
+pad_at pad = if nat_le pad 65535 then Some (line.Pad pad) else None
+
+-- the site of a crossing
+abbrev pub crossing : ℕ → Option Track → Option Line → Option Site
+crossing channel (Some t) (Some l) = if is_small channel then Some (Cross channel t l) else None
+crossing channel _ _ = None
+
+-- the site along a track, which is a signal track
+abbrev pub along : ℕ → Option Track → ℕ → Option Site
+along channel (Some (track.Signal t)) index = if is_small channel && is_small index then Some (Along channel t index) else None
+along channel _ index = None
+
+-- an antifuse along a track: the numbers of the order of sites, and the site
+abbrev pub along_fuse : List ℕ → List ℕ → List ℕ → FuseLine
+along_fuse c t index = form.Fuse (number c ∷ track_order t ∷ 0 ∷ number index ∷ []) (along (number c) (track_of t) (number index))
+
+-- an antifuse where a pin crosses a track
+abbrev pub pin_fuse : List ℕ → List ℕ → List ℕ → List ℕ → ℕ → FuseLine
+pin_fuse c t row column pin = form.Fuse (number c ∷ track_order t ∷ 1 ∷ number row ∷ number column ∷ pin ∷ []) (crossing (number c) (track_of t) (pin_at (number row) (number column) pin))
+
+-- an antifuse where an output crosses a track
+abbrev pub out_fuse : List ℕ → List ℕ → List ℕ → List ℕ → FuseLine
+out_fuse c t row column = form.Fuse (number c ∷ track_order t ∷ 2 ∷ number row ∷ number column ∷ []) (crossing (number c) (track_of t) (out_at (number row) (number column)))
+
+-- an antifuse where a long wire crosses a track
+abbrev pub long_fuse : List ℕ → List ℕ → List ℕ → List ℕ → FuseLine
+long_fuse c t column index = form.Fuse (number c ∷ track_order t ∷ 3 ∷ number column ∷ number index ∷ []) (crossing (number c) (track_of t) (long_at (number column) (number index)))
+
+-- an antifuse where a pad crosses a track
+abbrev pub pad_fuse : List ℕ → List ℕ → List ℕ → FuseLine
+pad_fuse c t pad = form.Fuse (number c ∷ track_order t ∷ 4 ∷ number pad ∷ []) (crossing (number c) (track_of t) (pad_at (number pad)))
+
+-- a line of one word
+abbrev pub form_of_one : List ℕ → Option FuseLine
+form_of_one word = if bytes_eq word (codes "end") then Some form.End else None
+
+-- a line of a word and a name
+abbrev pub form_of_two : List ℕ → List ℕ → Option FuseLine
+form_of_two word name =
+    if bytes_eq word (codes "device") && is_name name then Some (form.Device name)
+    else if bytes_eq word (codes "clock") && is_name name then Some (form.Clock name)
+    else None
+
+-- the first line, an input or an output
+abbrev pub form_of_three : List ℕ → List ℕ → List ℕ → Option FuseLine
+form_of_three word a b =
+    if bytes_eq word (codes "act1") && bytes_eq a (codes "fuses") && bytes_eq b (codes "1") then Some form.Header
+    else if bytes_eq word (codes "in") && is_number a && is_name b then Some (form.In (number a) b)
+    else if bytes_eq word (codes "out") && is_number a && is_name b then Some (form.Out (number a) b)
+    else None
+
+-- the words with which each antifuse begins: `fuse`, a channel and a track
+abbrev pub is_fuse : List ℕ → List ℕ → List ℕ → Bool
+is_fuse word channel track = bytes_eq word (codes "fuse") && is_number channel && is_track track
+
+-- a number up to 3
+abbrev pub is_init : List ℕ → Bool
+is_init word = is_number word && nat_le (number word) 3
+
+-- a start, or an antifuse along a track or at a pad
+abbrev pub form_of_five : List ℕ → List ℕ → List ℕ → List ℕ → List ℕ → Option FuseLine
+form_of_five word a b c d =
+    if bytes_eq word (codes "start") && is_number a && is_number b && is_init c && is_name d then Some (form.Start (number a) (number b) (number c) d)
+    else if is_fuse word a b && bytes_eq c (codes "along") && is_number d then Some (along_fuse a b d)
+    else if is_fuse word a b && bytes_eq c (codes "pad") && is_number d then Some (pad_fuse a b d)
+    else None
+
+-- an antifuse at an output or a long wire
+abbrev pub form_of_six : List ℕ → List ℕ → List ℕ → List ℕ → List ℕ → List ℕ → Option FuseLine
+form_of_six word a b c d e =
+    if is_fuse word a b && bytes_eq c (codes "out") && is_number d && is_number e then Some (out_fuse a b d e)
+    else if is_fuse word a b && bytes_eq c (codes "long") && is_number d && is_number e then Some (long_fuse a b d e)
+    else None
+
+-- an antifuse at a pin
+abbrev pub form_of_seven : List ℕ → List ℕ → List ℕ → List ℕ → List ℕ → List ℕ → Option ℕ → Option FuseLine
+form_of_seven word a b c d e (Some pin) =
+    if is_fuse word a b && bytes_eq c (codes "pin") && is_number d && is_number e then Some (pin_fuse a b d e pin) else None
+form_of_seven word a b c d e None = None
+
+-- the line of these words, or none where they are of no form
+abbrev pub form_of : List (List ℕ) → Option FuseLine
+form_of (a ∷ []) = form_of_one a
+form_of (a ∷ b ∷ []) = form_of_two a b
+form_of (a ∷ b ∷ c ∷ []) = form_of_three a b c
+form_of (a ∷ b ∷ c ∷ d ∷ e ∷ []) = form_of_five a b c d e
+form_of (a ∷ b ∷ c ∷ d ∷ e ∷ f ∷ []) = form_of_six a b c d e f
+form_of (a ∷ b ∷ c ∷ d ∷ e ∷ f ∷ g ∷ []) = form_of_seven a b c d e f (pin_number g)
+form_of _ = None

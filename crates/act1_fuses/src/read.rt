@@ -1,0 +1,103 @@
+ghost use Rattle.std.specs.Prelude.{◌≡◌, ◌≤◌, length};
+ghost use Rattle.act1_base.specs.Texts.{Gives};
+ghost use Rattle.act1_fuses.specs.Reading.{fuse_rules};
+ghost use Rattle.act1_fuses.specs.Reads.{FuseReads, ReadsAgain};
+
+use crate::fault::{FuseFault, FuseKind};
+use crate::form::FuseState;
+use crate::fuses::FuseFile;
+use crate::lines::read_line;
+use crate::step::step;
+use act1_base::{Format, Items, Memory, Name, Stop, TextFault, read_text};
+use act1_device::Device;
+use std::alloc::Global;
+
+// The format of the antifuse files of a device.
+#[derive(Drop)]
+struct FuseFormat<'a> {
+    alloc: Global,
+    device: &'a Device,
+}
+
+impl<'a> Format for FuseFormat<'a> {
+    type State = FuseState;
+
+    type Kind = FuseKind;
+
+    ghost rules = { λ format. fuse_rules format.device.now };
+
+    fn start(&self) -> Result<FuseState, Memory> {
+        let alloc = self.alloc;
+        let file = FuseFile {
+            device: Name::new(alloc, b"")?,
+            clock: None,
+            ins: Items::new(alloc),
+            outs: Items::new(alloc),
+            starts: Items::new(alloc),
+            sites: Items::new(alloc),
+        };
+        Ok(FuseState {
+            place: 0,
+            last: Items::new(alloc),
+            file,
+        })
+    }
+
+    fn after(&self, state: FuseState, line: &[u8]) -> Result<FuseState, Stop<FuseKind>> {
+        if state.place == 8 {
+            return Err(Stop::Fault(FuseKind::End));
+        }
+        match read_line(self.alloc, line)? {
+            Some(line) => step(self.alloc, self.device, state, line),
+            None => Err(Stop::Fault(FuseKind::Line)),
+        }
+    }
+
+    fn unended(&self, state: FuseState) -> FuseKind {
+        if state.place == 8 {
+            FuseKind::End
+        } else {
+            FuseKind::Line
+        }
+    }
+
+    fn end(&self, state: FuseState) -> Result<FuseState, FuseKind> {
+        if state.place == 8 {
+            Ok(state)
+        } else {
+            Err(FuseKind::End)
+        }
+    }
+}
+
+/// The antifuse file of a device that the bytes spell, or the first faulty line with the least kind
+/// of what is wrong with it. The format is that of `write_fuses`, and the rules that a file keeps
+/// for its device are these, which are this project's own:
+///
+/// - the names are names: 1 to 1,024 bytes from 0x21 to 0x7E without `#`, the last no backslash;
+/// - no two inputs have one name, no two outputs, and no two of inputs and latches; none of these has
+///   the clock's name;
+/// - the device has each pad, and no two inputs and outputs are at one;
+/// - starts are inside the device's rows and columns, have an init of 0 to 3, and rise by row and
+///   column;
+/// - each antifuse is at a site of the device, and they rise in the order of sites.
+///
+/// So `Ok` comes exactly for the text of a file that keeps the rules, with that file. What each fault
+/// means is said at `FuseKind`; numbers of any length are of the form of a line, so one that is too
+/// large is no fault of the line but of the site or pad. The line `end` is the last, and whatever
+/// stands behind it is faulty as `End` alone. The one answer that is tied to no cause is `Memory`.
+pub fn read_fuses(alloc: Global, device: &Device, bytes: &[u8]) -> Result<FuseFile, FuseFault>
+    requires { length bytes.now ≤ 4000000000 }
+    ensures first { FuseReads device.now bytes.now result }
+    ensures again { ReadsAgain device.now bytes.now result }
+{
+    let format = FuseFormat { alloc, device };
+    match read_text(alloc, &format, bytes) {
+        Ok(state) => Ok(state.file),
+        Err(Stop::Fault(TextFault { line, kind })) => Err(FuseFault { line, kind }),
+        Err(Stop::Memory) => Err(FuseFault {
+            line: 0,
+            kind: FuseKind::Memory,
+        }),
+    }
+}

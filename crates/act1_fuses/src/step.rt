@@ -1,0 +1,324 @@
+ghost use Rattle.std.specs.Prelude.{◌≡◌, [], ◌∷◌, ◌==◌, ◌≤◌, ◌<◌, IsTrue, Some, length, map};
+ghost use Rattle.std.specs.List.{list_any};
+ghost use Rattle.std.specs.Str.{bytes_eq};
+ghost use Rattle.act1_base.specs.Rising.{is_before};
+ghost use Rattle.act1_base.specs.Texts.{Gives};
+ghost use Rattle.act1_fuses.specs.Rules.{port_names, start_names};
+ghost use Rattle.act1_fuses.specs.Reading as reading;
+ghost use Rattle.act1_fuses.specs.SiteTest.{is_site};
+ghost use Rattle.act1_fuses.specs.declared.form.FuseLine.TheVariants as form;
+
+use crate::fault::FuseKind;
+use crate::form::{FuseLine, FuseState};
+use crate::fuses::{FuseFile, Port, StartAt};
+use act1_base::{Items, Name, Stop};
+use act1_circuit::Spot;
+use act1_device::{Device, Site};
+use std::alloc::Global;
+
+// The place of a line's kind among the kinds.
+fn place_of(line: &FuseLine) -> u8
+    ensures { result ≡ reading.place_of line.now }
+{
+    match line {
+        FuseLine::Header => 1,
+        FuseLine::Device { .. } => 2,
+        FuseLine::Clock { .. } => 3,
+        FuseLine::In { .. } => 4,
+        FuseLine::Out { .. } => 5,
+        FuseLine::Start { .. } => 6,
+        FuseLine::Fuse { .. } => 7,
+        FuseLine::End => 8,
+    }
+}
+
+// Whether a line of a kind may follow one of another, by their places.
+fn may_follow(before: u8, place: u8) -> bool
+    ensures { result ≡ reading.may_follow before place }
+{
+    if place <= 2 {
+        return u32::from(before) + 1 == u32::from(place);
+    }
+    before >= 2 && (before < place || (before == place && place >= 4 && place <= 7))
+}
+
+// Whether the numbers come before others, as words do in a dictionary.
+fn is_before(xs: &[u32], ys: &[u32]) -> bool
+    ensures { result ≡ is_before xs.now ys.now }
+{
+    for (i, y) in ys.iter().enumerate() {
+        if i >= xs.len() {
+            return true;
+        }
+        if xs[i] != *y {
+            return xs[i] < *y;
+        }
+    }
+    false
+}
+
+// Whether a start or an antifuse comes after the one before.
+fn comes_after(state: &FuseState, place: u8, numbers: &[u32]) -> bool
+    ensures { result ≡ reading.comes_after state.now place numbers.now }
+{
+    if state.place == place {
+        is_before(state.last.as_slice(), numbers)
+    } else {
+        is_before(&[], numbers)
+    }
+}
+
+// Whether one of the ports has the pad.
+fn uses_pad(pad: u32, ports: &[Port]) -> bool
+    ensures { result ≡ reading.uses_pad pad ports.now }
+{
+    for port in ports {
+        if u32::from(port.pad) == pad {
+            return true;
+        }
+    }
+    false
+}
+
+// Whether the device has the pad, and no line so far uses it.
+fn is_free_pad(device: &Device, file: &FuseFile, pad: u32) -> bool
+    ensures { result ≡ reading.is_free_pad device.now file.now pad }
+{
+    if pad > 65_535 || pad as usize >= device.pads.len() {
+        return false;
+    }
+    !(uses_pad(pad, file.ins.as_slice()) || uses_pad(pad, file.outs.as_slice()))
+}
+
+// Whether the file has a clock of this name.
+fn is_clock(clock: &Option<Name>, name: &Name) -> bool
+    ensures { result ≡ reading.is_clock clock.now name.now }
+{
+    match clock {
+        Some(clock) => has_name(clock, name),
+        None => false,
+    }
+}
+
+// Whether two names are the same.
+fn has_name(other: &Name, name: &Name) -> bool
+    ensures { result ≡ bytes_eq other.now name.now }
+{
+    other.as_bytes() == name.as_bytes()
+}
+
+// Whether one of the ports has the name.
+fn names_port(name: &Name, ports: &[Port]) -> bool
+    ensures { result ≡ reading.is_among name.now (port_names ports.now) }
+{
+    for port in ports {
+        if has_name(&port.name, name) {
+            return true;
+        }
+    }
+    false
+}
+
+// Whether one of the starts has the name.
+fn names_start(name: &Name, starts: &[StartAt]) -> bool
+    ensures { result ≡ reading.is_among name.now (start_names starts.now) }
+{
+    for start in starts {
+        if has_name(&start.name, name) {
+            return true;
+        }
+    }
+    false
+}
+
+// Whether an antifuse may stand at a site.
+#[tactic(auto, using(crate::proofs::SiteTests::tested_site))]
+fn is_site(device: &Device, site: Site) -> bool
+    ensures { result ≡ is_site device.now site }
+{
+    device.is_site(site)
+}
+
+// The state after a line that isn't ordered among others.
+fn moved(alloc: Global, place: u8, file: FuseFile) -> FuseState
+    ensures { result ≡ record { place = place; last = []; file = file } }
+{
+    FuseState {
+        place,
+        last: Items::new(alloc),
+        file,
+    }
+}
+
+// The device's line.
+fn add_device(
+    alloc: Global,
+    device: &Device,
+    state: FuseState,
+    name: Name,
+) -> Result<FuseState, Stop<FuseKind>>
+    requires { IsTrue (reading.may_follow state.place 2) }
+    ensures { Gives result (reading.step device.now state (form.Device name)) }
+{
+    let FuseState { mut file, .. } = state;
+    if !has_name(&name, &device.name) {
+        return Err(Stop::Fault(FuseKind::Device));
+    }
+    file.device = name;
+    Ok(moved(alloc, 2, file))
+}
+
+// The clock's line.
+fn add_clock(alloc: Global, state: FuseState, name: Name) -> FuseState
+    ensures { result ≡ reading.state_with state (form.Clock name) }
+{
+    let FuseState { mut file, .. } = state;
+    file.clock = Some(name);
+    moved(alloc, 3, file)
+}
+
+// The line of an input.
+fn add_in(
+    alloc: Global,
+    device: &Device,
+    state: FuseState,
+    pad: u32,
+    name: Name,
+) -> Result<FuseState, Stop<FuseKind>>
+    requires { IsTrue (reading.may_follow state.place 4) }
+    ensures { Gives result (reading.step device.now state (form.In pad name)) }
+{
+    let FuseState { mut file, .. } = state;
+    if !is_free_pad(device, &file, pad) {
+        return Err(Stop::Fault(FuseKind::Pad));
+    }
+    if is_clock(&file.clock, &name) || names_port(&name, file.ins.as_slice()) {
+        return Err(Stop::Fault(FuseKind::Name));
+    }
+    let pad = pad as u16;
+    file.ins.push(Port { pad, name })?;
+    Ok(moved(alloc, 4, file))
+}
+
+// The line of an output.
+fn add_out(
+    alloc: Global,
+    device: &Device,
+    state: FuseState,
+    pad: u32,
+    name: Name,
+) -> Result<FuseState, Stop<FuseKind>>
+    requires { IsTrue (reading.may_follow state.place 5) }
+    ensures { Gives result (reading.step device.now state (form.Out pad name)) }
+{
+    let FuseState { mut file, .. } = state;
+    if !is_free_pad(device, &file, pad) {
+        return Err(Stop::Fault(FuseKind::Pad));
+    }
+    if is_clock(&file.clock, &name) || names_port(&name, file.outs.as_slice()) {
+        return Err(Stop::Fault(FuseKind::Name));
+    }
+    let pad = pad as u16;
+    file.outs.push(Port { pad, name })?;
+    Ok(moved(alloc, 5, file))
+}
+
+// Whether a latch may not have this name.
+fn is_taken(file: &FuseFile, name: &Name) -> bool
+    ensures { result ≡ reading.is_taken file.now name.now }
+{
+    is_clock(&file.clock, name)
+        || names_port(name, file.ins.as_slice())
+        || names_start(name, file.starts.as_slice())
+}
+
+// The line of a start.
+fn add_start(
+    alloc: Global,
+    device: &Device,
+    state: FuseState,
+    spot: (u32, u32),
+    init: u8,
+    name: Name,
+) -> Result<FuseState, Stop<FuseKind>>
+    requires { IsTrue (reading.may_follow state.place 6) }
+    ensures { Gives result (reading.step device.now state (form.Start spot.0 spot.1 init name)) }
+{
+    let (row, column) = spot;
+    if !comes_after(&state, 6, &[row, column]) {
+        return Err(Stop::Fault(FuseKind::Order));
+    }
+    if row >= u32::from(device.rows) || column >= u32::from(device.columns) {
+        return Err(Stop::Fault(FuseKind::Site));
+    }
+    let FuseState { mut file, .. } = state;
+    if is_taken(&file, &name) {
+        return Err(Stop::Fault(FuseKind::Name));
+    }
+    let last = Items::from_slice(alloc, &[row, column])?;
+    let row = row as u8;
+    let column = column as u8;
+    let spot = Spot { row, column };
+    file.starts.push(StartAt { spot, init, name })?;
+    let place = 6;
+    Ok(FuseState { place, last, file })
+}
+
+// The line of an antifuse.
+fn add_fuse(
+    device: &Device,
+    state: FuseState,
+    numbers: Items<u32>,
+    site: Option<Site>,
+) -> Result<FuseState, Stop<FuseKind>>
+    requires { IsTrue (reading.may_follow state.place 7) }
+    ensures { Gives result (reading.step device.now state (form.Fuse numbers site)) }
+{
+    if !comes_after(&state, 7, numbers.as_slice()) {
+        return Err(Stop::Fault(FuseKind::Order));
+    }
+    let Some(site) = site else {
+        return Err(Stop::Fault(FuseKind::Site));
+    };
+    if !is_site(device, site) {
+        return Err(Stop::Fault(FuseKind::Site));
+    }
+    let FuseState { mut file, .. } = state;
+    file.sites.push(site)?;
+    let place = 7;
+    Ok(FuseState {
+        place,
+        last: numbers,
+        file,
+    })
+}
+
+/// What a line of an antifuse file of the device does: the state with what the line says, or the
+/// least kind of what is wrong with it.
+pub fn step(
+    alloc: Global,
+    device: &Device,
+    state: FuseState,
+    line: FuseLine,
+) -> Result<FuseState, Stop<FuseKind>>
+    ensures { Gives result (reading.step device.now state line) }
+{
+    if !may_follow(state.place, place_of(&line)) {
+        return Err(Stop::Fault(FuseKind::Order));
+    }
+    match line {
+        FuseLine::Header => Ok(moved(alloc, 1, state.file)),
+        FuseLine::Device { name } => add_device(alloc, device, state, name),
+        FuseLine::Clock { name } => Ok(add_clock(alloc, state, name)),
+        FuseLine::In { pad, name } => add_in(alloc, device, state, pad, name),
+        FuseLine::Out { pad, name } => add_out(alloc, device, state, pad, name),
+        FuseLine::Start {
+            row,
+            column,
+            init,
+            name,
+        } => add_start(alloc, device, state, (row, column), init, name),
+        FuseLine::Fuse { numbers, site } => add_fuse(device, state, numbers, site),
+        FuseLine::End => Ok(moved(alloc, 8, state.file)),
+    }
+}
