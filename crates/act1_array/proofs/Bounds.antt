@@ -13,7 +13,7 @@ use Rattle.act1_fuses.specs.declared.fuses.FuseFile.{FuseFile}
 use Rattle.act1_fuses.specs.declared.fuses.Port.{Port}
 use Rattle.act1_fuses.specs.Array.{IsSource, pad_wire}
 use Rattle.act1_fuses.specs.Rules.{KeepsRules}
-use Rattle.act1_array.proofs.ListGets.{place_of, get_mapped, get_within}
+use Rattle.act1_base.proofs.ListGets.{place_of, get_mapped, get_within}
 use Rattle.act1_array.proofs.SpotLemmas.{sizes}
 
 -- the number is none of these, and no two of these are the same

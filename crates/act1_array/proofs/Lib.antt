@@ -1,8 +1,9 @@
 pub mod Bounds
 pub mod CircuitLemmas
 pub mod ClassLemmas
-pub mod ListGets
 pub mod NetworkLemmas
+pub mod OneAnswers
 pub mod OwnerLemmas
 pub mod Refusals
 pub mod SpotLemmas
+pub mod StartLemmas

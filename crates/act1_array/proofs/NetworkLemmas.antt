@@ -24,7 +24,7 @@ use Rattle.act1_array.specs.Classes.{AreClasses, HasClass}
 use Rattle.act1_array.specs.Gives.{AreJoined, source_place}
 use Rattle.act1_array.specs.Network.{Feeds, GivesPair, IsNetworkOf}
 use Rattle.act1_array.specs.Owners.{GivesSource, IsLeastFrom, Meet, Shares}
-use Rattle.act1_array.proofs.ListGets.{some_is, get_within, get_map, get_mapped, contains_at, place_of}
+use Rattle.act1_base.proofs.ListGets.{some_is, get_within, get_map, get_mapped, contains_at, place_of}
 use Rattle.act1_array.proofs.ClassLemmas.{has_class}
 use Rattle.act1_array.proofs.OwnerLemmas.{one_wire, one_source}
 

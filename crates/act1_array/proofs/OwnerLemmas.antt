@@ -16,7 +16,7 @@ use Rattle.act1_array.specs.declared.owners.Pair.{Pair}
 use Rattle.act1_array.specs.Classes.{HasClass, IsWhole}
 use Rattle.act1_array.specs.Gives.{PairIsUpTo, source_place}
 use Rattle.act1_array.specs.Owners.{AreOwners, GivesSource, IsIn, IsLeastFrom, Meet, pair_with}
-use Rattle.act1_array.proofs.ListGets.{some_is, get_within, get_written, get_unwritten, contains_at}
+use Rattle.act1_base.proofs.ListGets.{some_is, get_within, get_written, get_unwritten, contains_at}
 
 -- a numbered wire has one class
 pub one_class : (c : Classes) → IsWhole c → (w : Wire) (a b : ℕ) → HasClass c.wires.keys c.classes.items w a → HasClass c.wires.keys c.classes.items w b → a ≡ b

@@ -18,7 +18,7 @@ use Rattle.act1_circuit.specs.Spots.{SpotIsBefore}
 use Rattle.act1_fuses.specs.Array.{IsUsed}
 use Rattle.act1_array.specs.Gives.{AreUsed}
 use Rattle.act1_array.specs.Spots.{AreMarks, IsInside, IsNear, place_of, spot_of, with_use}
-use Rattle.act1_array.proofs.ListGets.{some_is, get_within, get_written, get_unwritten}
+use Rattle.act1_base.proofs.ListGets.{some_is, get_within, get_written, get_unwritten}
 
 both : (a b : Bool) → IsTrue (a && b) → IsTrue a × IsTrue b
 both true true h = (refl, refl)

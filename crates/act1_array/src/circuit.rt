@@ -1,4 +1,5 @@
-ghost use Rattle.std.specs.Prelude.{◌≡◌, ◌≤◌, length, map, All, IfOk};
+ghost use Rattle.std.specs.Prelude.{◌≡◌, ◌≢◌, ◌<◌, ◌≤◌, length, map, All, AllPairs, IfOk};
+ghost use Rattle.act1_circuit.specs.declared.circuit.Start.{Start};
 ghost use Rattle.act1_device.specs.Sites.{IsSite};
 ghost use Rattle.act1_fuses.specs.declared.fuses.Port.{Port};
 ghost use Rattle.act1_fuses.specs.Rules.{KeepsRules};
@@ -47,11 +48,16 @@ fn copy_of(alloc: Global, name: &Option<Name>) -> Result<Option<Name>, Memory>
 /// module is joined to none, `Unfed` where an output is, `StartUnused` where a start stands at an
 /// unused module. `Memory` where no memory was found.
 ///
+/// The circuit has at most 2,048 modules, and its starts stand at modules of their own.
+///
 /// Two wires are joined where a path of listed antifuses leads from the one to the other; what a sound
 /// array is, and the order of its sources and refusals, are this project's own rules.
 pub fn circuit_of(alloc: Global, device: &Device, file: &FuseFile) -> Result<Placed, ArrayFault>
     requires { KeepsRules device.now file.now }
-    ensures { Gives device.now file.now result }
+    ensures gives { Gives device.now file.now result }
+    ensures few { IfOk result (λ placed. length placed.spots ≤ 2048) }
+    ensures starts { IfOk result (λ placed. All (λ (start : Start). start.«module» < length placed.circuit.modules) placed.circuit.starts) }
+    ensures apart { IfOk result (λ placed. AllPairs (λ (s t : Start). s.«module» ≢ t.«module») placed.circuit.starts) }
 {
     circuit_of_sites(alloc, device, file)
 }
@@ -59,15 +65,12 @@ pub fn circuit_of(alloc: Global, device: &Device, file: &FuseFile) -> Result<Pla
 // The same of a file whose antifuses stand at sites of the device, and that has as many inputs and
 // outputs as can be numbered: the code needs no other rule, but only a file that keeps them all has a
 // meaning.
-pub(crate) fn circuit_of_sites(
-    alloc: Global,
-    device: &Device,
-    file: &FuseFile,
-) -> Result<Placed, ArrayFault>
+fn circuit_of_sites(alloc: Global, device: &Device, file: &FuseFile) -> Result<Placed, ArrayFault>
     requires sites { All (IsSite device.now) file.now.sites }
     requires few_inputs { length file.now.ins ≤ 65536 }
     requires few_outputs { length file.now.outs ≤ 65536 }
-    ensures { KeepsRules device.now file.now → Gives device.now file.now result }
+    ensures gives { KeepsRules device.now file.now → Gives device.now file.now result }
+    ensures few { IfOk result (λ placed. length placed.spots ≤ 2048) }
 {
     let network = Network::of_array(alloc, device, file)?;
     if let Some(Pair { first, second }) = network.driven_pair() {

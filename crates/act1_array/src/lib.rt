@@ -4,6 +4,7 @@
 mod circuit;
 mod classes;
 mod fault;
+mod laws;
 mod modules;
 mod network;
 mod outputs;
@@ -15,3 +16,4 @@ mod tests;
 
 pub use circuit::circuit_of;
 pub use fault::ArrayFault;
+pub use laws::one_answer;

@@ -1,16 +1,27 @@
-ghost use Rattle.std.specs.Prelude.{IsTrue, All};
-ghost use Rattle.act1_device.specs.Sites.{IsSite};
-
-use crate::circuit::circuit_of_sites;
-use crate::fault::ArrayFault;
+use crate::{ArrayFault, circuit_of};
 use act1_base::{Items, Memory, Name};
 use act1_circuit::{Placed, Source, Spot};
-use act1_device::{Device, Line, PadPlace, Site, Track};
-use act1_fuses::{FuseFile, Port, StartAt};
+use act1_device::{Device, PadPlace};
+use act1_fuses::read_fuses;
 use std::alloc::Global;
 use std::test::Fail;
 
 const ORIGIN: Spot = Spot { row: 0, column: 0 };
+
+// The antifuses of an inverter but for that of its last pin: S0 is the input, A0 is 1 and all other
+// pins are 0.
+const INVERTER: &[u8] = b"fuse 0 0 out 0 0\n\
+    fuse 0 0 pad 0\n\
+    fuse 0 gnd pin 0 0 A1\n\
+    fuse 0 gnd pin 0 0 SA\n\
+    fuse 0 gnd pin 0 0 B0\n\
+    fuse 0 vcc pin 0 0 A0\n\
+    fuse 1 0 pin 0 0 S0\n\
+    fuse 1 0 pad 2\n\
+    fuse 1 gnd pin 0 0 B1\n\
+    fuse 1 gnd pin 0 0 SB\n";
+
+const LAST_PIN: &[u8] = b"fuse 1 gnd pin 0 0 S1\n";
 
 // One row of two modules, with one track a channel and a pad at each end of both channels.
 #[tactic(auto, unfolding(act1_device::specs::Rules::is_device))]
@@ -50,116 +61,34 @@ fn tiny(alloc: Global) -> Result<Device, Memory> {
     })
 }
 
-// A file without ports and starts.
-fn file_of(alloc: Global, sites: &[Site]) -> Result<FuseFile, Memory> {
-    Ok(FuseFile {
-        device: Name::new(alloc, b"tiny")?,
-        clock: None,
-        ins: Items::new(alloc),
-        outs: Items::new(alloc),
-        starts: Items::new(alloc),
-        sites: Items::from_slice(alloc, sites)?,
-    })
-}
-
-fn port(alloc: Global, pad: u16, name: &[u8]) -> Result<Port, Memory> {
-    Ok(Port {
-        pad,
-        name: Name::new(alloc, name)?,
-    })
-}
-
-// Whether the device has each of the sites.
-fn has_sites(device: &Device, sites: &[Site]) -> bool
-    ensures { IsTrue result → All (IsSite device.now) sites.now }
-{
-    for site in sites {
-        if !device.is_site(*site) {
-            return false;
-        }
-    }
-    true
-}
-
-// The circuit on the tiny device. A file with a site of another device gives `Memory`.
-fn circuit(alloc: Global, file: &FuseFile) -> Result<Placed, ArrayFault> {
+// What an array on the tiny device gives, by a file with an input, an output and these lines behind
+// them. Where that is no antifuse file, the answer is `Memory`.
+fn given(alloc: Global, lines: &[&[u8]]) -> Result<Result<Placed, ArrayFault>, Memory> {
     let device = tiny(alloc)?;
-    let is_few = file.ins.len() <= 65536 && file.outs.len() <= 65536;
-    if !is_few || !has_sites(&device, file.sites.as_slice()) {
-        return Err(ArrayFault::Memory);
+    let mut text = Vec::from_slice(alloc, b"act1 fuses 1\ndevice tiny\nin 2 a\nout 0 y\n")?;
+    for line in lines {
+        text.extend_from_slice(line)?;
     }
-    circuit_of_sites(alloc, &device, file)
-}
-
-fn refusal(answer: Result<Placed, ArrayFault>) -> Option<ArrayFault> {
-    match answer {
-        Ok(_) => None,
-        Err(fault) => Some(fault),
+    text.extend_from_slice(b"end\n")?;
+    if text.len() > 1000 {
+        return Err(Memory);
     }
-}
-
-fn out(column: u8) -> Site {
-    Site::Cross {
-        channel: 0,
-        track: Track::Signal(0),
-        line: Line::Out { row: 0, column },
+    match read_fuses(alloc, &device, &text) {
+        Ok(file) => Ok(circuit_of(alloc, &device, &file)),
+        Err(_) => Err(Memory),
     }
 }
 
-fn pad(channel: u8, pad: u16) -> Site {
-    Site::Cross {
-        channel,
-        track: Track::Signal(0),
-        line: Line::Pad { pad },
+fn refusal(alloc: Global, lines: &[&[u8]]) -> Result<Option<ArrayFault>, Memory> {
+    match given(alloc, lines)? {
+        Ok(_) => Ok(None),
+        Err(fault) => Ok(Some(fault)),
     }
-}
-
-fn pin(channel: u8, track: Track, pin: u8) -> Site {
-    Site::Cross {
-        channel,
-        track,
-        line: Line::Pin {
-            row: 0,
-            column: 0,
-            pin,
-        },
-    }
-}
-
-// The sites of an inverter: S0 is the input, A0 is 1 and all other pins are 0.
-fn inverter_sites() -> [Site; 11] {
-    [
-        out(0),
-        pad(0, 0),
-        pad(1, 2),
-        pin(0, Track::Vcc, 0),
-        pin(0, Track::Gnd, 1),
-        pin(0, Track::Gnd, 2),
-        pin(0, Track::Gnd, 3),
-        pin(1, Track::Gnd, 4),
-        pin(1, Track::Gnd, 5),
-        pin(1, Track::Signal(0), 6),
-        pin(1, Track::Gnd, 7),
-    ]
-}
-
-// A file with an input and an output.
-fn inverter(alloc: Global, sites: &[Site]) -> Result<FuseFile, Memory> {
-    let mut file = file_of(alloc, sites)?;
-    file.ins.push(port(alloc, 2, b"a")?)?;
-    file.outs.push(port(alloc, 0, b"y")?)?;
-    Ok(file)
-}
-
-fn refused(alloc: Global, sites: &[Site]) -> Result<Option<ArrayFault>, Memory> {
-    let file = inverter(alloc, sites)?;
-    Ok(refusal(circuit(alloc, &file)))
 }
 
 #[test]
 fn reads_the_inverter(rt: HostRuntime) -> Result<(), Fail> {
-    let file = inverter(rt.alloc(), &inverter_sites())?;
-    match circuit(rt.alloc(), &file) {
+    match given(rt.alloc(), &[INVERTER, LAST_PIN])? {
         Ok(Placed { circuit, spots }) => {
             let (zero, input) = (Source::Zero, Source::Input(0));
             let pins = [Source::One, zero, zero, zero, zero, zero, input, zero];
@@ -182,18 +111,22 @@ fn refuses_two_joined_outputs(rt: HostRuntime) -> Result<(), Fail> {
         first: Source::Module(0),
         second: Source::Module(1),
     };
-    assert_eq!(rt; refused(rt.alloc(), &[out(0), out(1)])?, Some(wanted));
+    let lines: &[u8] = b"fuse 0 0 out 0 0\nfuse 0 0 out 0 1\n";
+    assert_eq!(rt; refusal(rt.alloc(), &[lines])?, Some(wanted));
     Ok(())
 }
 
 #[test]
 fn refuses_the_least_pair(rt: HostRuntime) -> Result<(), Fail> {
-    let sites = [out(0), out(1), pin(0, Track::Gnd, 0), pin(0, Track::Vcc, 0)];
     let wanted = ArrayFault::Driven {
         first: Source::Zero,
         second: Source::One,
     };
-    assert_eq!(rt; refused(rt.alloc(), &sites)?, Some(wanted));
+    let lines: &[u8] = b"fuse 0 0 out 0 0\n\
+        fuse 0 0 out 0 1\n\
+        fuse 0 gnd pin 0 0 A0\n\
+        fuse 0 vcc pin 0 0 A0\n";
+    assert_eq!(rt; refusal(rt.alloc(), &[lines])?, Some(wanted));
     Ok(())
 }
 
@@ -209,28 +142,28 @@ fn refuses_the_first_open_pin(rt: HostRuntime) -> Result<(), Fail> {
             pin: 7,
         },
     );
-    assert_eq!(rt; refused(rt.alloc(), &[out(0)])?, Some(first));
-    assert_eq!(rt; refused(rt.alloc(), &inverter_sites()[..10])?, Some(last));
+    let output: &[u8] = b"fuse 0 0 out 0 0\n";
+    assert_eq!(rt; refusal(rt.alloc(), &[output])?, Some(first));
+    assert_eq!(rt; refusal(rt.alloc(), &[INVERTER])?, Some(last));
     Ok(())
 }
 
 #[test]
 fn refuses_an_open_output(rt: HostRuntime) -> Result<(), Fail> {
     let wanted = ArrayFault::Unfed { output: 0 };
-    assert_eq!(rt; refused(rt.alloc(), &[])?, Some(wanted));
+    assert_eq!(rt; refusal(rt.alloc(), &[])?, Some(wanted));
     Ok(())
 }
 
 #[test]
 fn refuses_a_start_at_an_unused_module(rt: HostRuntime) -> Result<(), Fail> {
-    let mut file = inverter(rt.alloc(), &inverter_sites())?;
-    let spot = Spot { row: 0, column: 1 };
-    file.starts.push(StartAt {
-        spot,
-        init: 0,
-        name: Name::new(rt.alloc(), b"q")?,
-    })?;
-    let wanted = ArrayFault::StartUnused { spot };
-    assert_eq!(rt; refusal(circuit(rt.alloc(), &file)), Some(wanted));
+    let wanted = ArrayFault::StartUnused {
+        spot: Spot { row: 0, column: 1 },
+    };
+    let start: &[u8] = b"start 0 1 0 q\n";
+    assert_eq!(rt;
+        refusal(rt.alloc(), &[start, INVERTER, LAST_PIN])?,
+        Some(wanted)
+    );
     Ok(())
 }

@@ -1,6 +1,6 @@
 use Rattle.std.proofs.Common.{◌≡◌, Some, arith}
 use Rattle.std.specs.Prelude.{slice_get}
-use Rattle.act1_array.proofs.ListGets.{get_within, get_read}
+use Rattle.act1_base.proofs.ListGets.{get_within, get_read}
 use Rattle.act1_array.proofs.ClassLemmas.{found_wire, class_low}
 use Rattle.act1_array.proofs.classes.Classes.class_of.Goals as goal
 

@@ -1,7 +1,7 @@
 use Rattle.std.proofs.Common.{◌<◌, ◌+◌, ◌-◌, List, length, get_or, sym, ap, ◌∙◌, arith}
 use Rattle.act1_fuses.specs.declared.fuses.Port.{Port}
 use Rattle.act1_fuses.specs.Array.{pad_wire}
-use Rattle.act1_array.proofs.ListGets.{get_read}
+use Rattle.act1_base.proofs.ListGets.{get_read}
 use Rattle.act1_array.proofs.OwnerLemmas.{owners_from}
 use Rattle.act1_array.proofs.owners.Owners.add_inputs.Goals as goal
 

@@ -1,5 +1,5 @@
 use Rattle.std.proofs.Common.{arith}
-use Rattle.act1_array.proofs.ListGets.{get_read}
+use Rattle.act1_base.proofs.ListGets.{get_read}
 use Rattle.act1_array.proofs.OwnerLemmas.{gives_owner, gives_none}
 use Rattle.act1_array.proofs.owners.Owners.source_of.Goals as goal
 

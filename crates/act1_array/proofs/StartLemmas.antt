@@ -1,0 +1,59 @@
+-- The starts of an array's circuit stand at modules, each at one of its own.
+use Rattle.std.proofs.Common.{ℕ, ◌≡◌, ◌≢◌, ◌<◌, List, length, map, get_or, Some, All, AllPairs, sym, ap, subst, ◌∙◌, arith}
+use Rattle.std.proofs.lemmas.Option.{slice_get-get_or}
+use Rattle.std.specs.Prelude.{slice_get, Result, Ok, Err, IfOk}
+use Rattle.act1_base.proofs.ListGets.{some_is, get_within, get_map, get_mapped}
+use Rattle.act1_device.specs.declared.device.Device.{Device}
+use Rattle.act1_circuit.specs.declared.circuit.Placed.{Placed}
+use Rattle.act1_circuit.specs.declared.circuit.Spot.{Spot}
+use Rattle.act1_circuit.specs.declared.circuit.Start.{Start}
+use Rattle.act1_circuit.specs.Spots.{SpotIsBefore}
+use Rattle.act1_fuses.specs.Array.{IsCircuitOf, Beginning}
+use Rattle.act1_fuses.specs.Rules.{KeepsRules}
+use Rattle.act1_fuses.specs.declared.fuses.FuseFile.{FuseFile}
+use Rattle.act1_fuses.specs.declared.fuses.StartAt.{StartAt}
+use Rattle.act1_array.specs.Gives.{Gives}
+use Rattle.act1_array.specs.declared.fault.ArrayFault.{ArrayFault}
+use Rattle.act1_array.specs.Parts.{start_beginning, start_at_beginning}
+use Rattle.act1_array.proofs.NetworkLemmas.{places_rise, not_both}
+
+third : (a b : Beginning) → a ≡ b → a.2 ≡ b.2
+third a b e = ap (λ (x : Beginning). x.2) e
+
+module _ (dev : Device) (f : FuseFile) (p : Placed) (is : IsCircuitOf p dev f) where
+  -- the line of a start, whose spot is that of its module
+  line_of : (k : ℕ) (start : Start) → slice_get p.circuit.starts k ≡ Some start → (at : StartAt) × (slice_get f.starts k ≡ Some at) × (slice_get p.spots start.module ≡ Some at.spot)
+  line_of k start e =
+      let here = get_map {Y = Beginning} (start_beginning p.spots) p.circuit.starts k start e in
+      let there = sym (ap (λ (xs : List Beginning). slice_get xs k) is.starts) ∙ here in
+      let found = get_mapped {Y = Beginning} start_at_beginning f.starts k (start_beginning p.spots start) there in
+      (found.0, found.1, sym (third (start_at_beginning found.0) (start_beginning p.spots start) found.2))
+
+  pub starts_inside : All (λ (start : Start). start.module < length p.circuit.modules) p.circuit.starts
+  starts_inside k d low =
+      let start = get_or p.circuit.starts k d in
+      let found = line_of k start (slice_get-get_or p.circuit.starts k d low) in
+      let inside = get_within p.spots start.module found.0.spot found.2 in
+      let same = is.modules in
+      omega arith
+
+  pub starts_apart : KeepsRules dev f → AllPairs (λ (s t : Start). s.module ≢ t.module) p.circuit.starts
+  starts_apart rules i j d less low same =
+      let s = get_or p.circuit.starts i d in
+      let t = get_or p.circuit.starts j d in
+      let a = line_of i s (slice_get-get_or p.circuit.starts i d (omega arith)) in
+      let b = line_of j t (slice_get-get_or p.circuit.starts j d low) in
+      let spot : StartAt → Spot = λ start. start.spot in
+      let one : a.0.spot ≡ b.0.spot = some_is a.0.spot b.0.spot (sym a.2 ∙ ap (λ (m : ℕ). slice_get p.spots m) same ∙ b.2) in
+      let before = places_rise (map spot f.starts) rules.spots_rise i j a.0.spot b.0.spot (get_map spot f.starts i a.0 a.1) (get_map spot f.starts j b.0 b.1) less in
+      let itself = subst (λ (u : Spot). SpotIsBefore u b.0.spot) one before in
+      not_both b.0.spot b.0.spot itself itself
+
+module _ (dev : Device) (f : FuseFile) where
+  pub given_inside : (r : Result Placed ArrayFault) → Gives dev f r → IfOk r (λ (p : Placed). All (λ (start : Start). start.module < length p.circuit.modules) p.circuit.starts)
+  given_inside (Ok p) given = starts_inside dev f p given.1
+  given_inside (Err e) given = tt
+
+  pub given_apart : KeepsRules dev f → (r : Result Placed ArrayFault) → Gives dev f r → IfOk r (λ (p : Placed). AllPairs (λ (s t : Start). s.module ≢ t.module) p.circuit.starts)
+  given_apart rules (Ok p) given = starts_apart dev f p given.1 rules
+  given_apart rules (Err e) given = tt
