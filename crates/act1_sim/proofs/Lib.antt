@@ -1,0 +1,7 @@
+pub mod CycleSteps
+pub mod FirstBits
+pub mod LineTexts
+pub mod OneAnswers
+pub mod OneStart
+pub mod Samples
+pub mod SimulationLaws

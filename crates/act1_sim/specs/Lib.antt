@@ -1,0 +1,4 @@
+pub mod Cycles
+pub mod OneAnswer
+pub mod Simulation
+pub mod Vectors

@@ -1,0 +1,76 @@
+ghost use Rattle.std.specs.Prelude.{◌≡◌, ◌++◌, ◌<◌, ◌^◌, length, map, false, OnOk, IfErr};
+ghost use Rattle.act1_circuit.specs.declared.circuit.Output.{Output};
+ghost use Rattle.act1_circuit.specs.Firing.{source_value, shown, low_bits, high_bits, fire_all, site_wave, IsAtRest, IsLeastUnrest};
+ghost use Rattle.act1_sim.specs.Cycles.{in_site_order, RestsIn, UnrestsIn, OnUnrest};
+ghost use Rattle.act1_sim.specs.Vectors.{bits_of, digit, output_line};
+
+use crate::vectors::bits_of;
+use act1_base::{Memory, Stop};
+use act1_circuit::{Circuit, settle, value_of};
+use std::alloc::Global;
+
+// The character of a bit.
+fn digit(bit: bool) -> u8
+    ensures { result ≡ digit bit }
+{
+    if bit { b'1' } else { b'0' }
+}
+
+// Adds the line of the outputs, which are read while the clock is 0.
+fn print_outputs(
+    circuit: &Circuit,
+    inputs: &[bool],
+    bits: &[bool],
+    text: &mut Vec<u8>,
+) -> Result<(), Memory>
+    ensures { OnOk result (text.new.items ≡ text.old.items ++ output_line (shown circuit.now inputs.now bits.now)) }
+{
+    for output in circuit.outputs.as_slice() {
+        text.push(digit(value_of(output.source, false, inputs, bits)))?;
+    }
+    text.push(b'\n')?;
+    Ok(())
+}
+
+// Fires one wave, and stops at a module that doesn't rest.
+fn fire_wave(
+    circuit: &Circuit,
+    clock: bool,
+    inputs: &[bool],
+    bits: &mut [bool],
+) -> Result<(), Stop<u16>>
+    requires one_each { length bits.old ≡ length circuit.now.modules }
+    requires few { length bits.old < 2 ^ 16 }
+    ensures wave { bits.new ≡ fire_all circuit.now clock inputs.now bits.old (site_wave (length circuit.now.modules)) }
+    ensures ok { OnOk result (IsAtRest circuit.now clock inputs.now bits.new) }
+    ensures err { IfErr result (OnUnrest (IsLeastUnrest circuit.now clock inputs.now bits.new)) }
+{
+    match settle(circuit, clock, inputs, bits) {
+        None => Ok(()),
+        Some(module) => Err(Stop::Fault(module)),
+    }
+}
+
+/// One cycle: the inputs are those of the line and the clock is 0, a wave, the outputs are read, the
+/// clock is 1, a wave. The bits become what the second wave leaves, and the line of outputs is added
+/// to the text. It stops at the least module that doesn't rest after a wave.
+pub fn run_cycle(
+    alloc: Global,
+    circuit: &Circuit,
+    line: &[u8],
+    bits: &mut Vec<bool>,
+    text: &mut Vec<u8>,
+) -> Result<(), Stop<u16>>
+    requires one_each { length bits.old.items ≡ length circuit.now.modules }
+    requires few { length bits.old.items < 2 ^ 16 }
+    ensures rests { OnOk result (RestsIn circuit.now bits.old.items (bits_of line.now)) }
+    ensures long { length bits.new.items ≡ length bits.old.items }
+    ensures bits { OnOk result (bits.new.items ≡ high_bits circuit.now bits.old.items (bits_of line.now) (in_site_order circuit.now)) }
+    ensures text { OnOk result (text.new.items ≡ text.old.items ++ output_line (shown circuit.now (bits_of line.now) (low_bits circuit.now bits.old.items (bits_of line.now) (in_site_order circuit.now)))) }
+    ensures err { IfErr result (OnUnrest (UnrestsIn circuit.now bits.old.items (bits_of line.now))) }
+{
+    let inputs = bits_of(alloc, line)?;
+    fire_wave(circuit, false, &inputs, bits)?;
+    print_outputs(circuit, &inputs, bits, text)?;
+    fire_wave(circuit, true, &inputs, bits)
+}

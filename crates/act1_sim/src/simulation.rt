@@ -1,0 +1,111 @@
+ghost use Rattle.std.specs.Prelude.{◌≡◌, ◌≢◌, ◌≤◌, ◌<◌, ◌^◌, length, map, All, AllPairs, Ok, IfOk, IfErr};
+ghost use Rattle.act1_circuit.specs.declared.circuit.Start.{Start};
+ghost use Rattle.act1_fuses.specs.Rules.{KeepsRules};
+ghost use Rattle.act1_array.specs.Gives.{Gives};
+ghost use Rattle.act1_sim.specs.Cycles.{outputs, Rests};
+ghost use Rattle.act1_sim.specs.Vectors.{AreVectorsOf, bits_of, output_text};
+ghost use Rattle.act1_sim.specs.Simulation.{Simulates, RefusesToSimulate, UnsettledBy, ArrayStops, VectorStops};
+
+use crate::begin::first_bits;
+use crate::cycle::run_cycle;
+use crate::fault::SimFault;
+use crate::vectors::{first_no_vector, vector_lines};
+use act1_array::{ArrayFault, circuit_of};
+use act1_base::Stop;
+use act1_circuit::Placed;
+use act1_device::Device;
+use act1_fuses::FuseFile;
+use std::alloc::Global;
+
+// The circuit of the array.
+fn circuit_in(alloc: Global, device: &Device, file: &FuseFile) -> Result<Placed, SimFault>
+    requires { KeepsRules device.now file.now }
+    ensures ok { IfOk result (λ placed. Gives device.now file.now (Ok placed)) }
+    ensures few { IfOk result (λ placed. length placed.spots ≤ 2048) }
+    ensures starts { IfOk result (λ placed. All (λ (start : Start). start.«module» < length placed.circuit.modules) placed.circuit.starts) }
+    ensures apart { IfOk result (λ placed. AllPairs (λ (s t : Start). s.«module» ≢ t.«module») placed.circuit.starts) }
+    ensures err { IfErr result (ArrayStops device.now file.now) }
+{
+    match circuit_of(alloc, device, file) {
+        Ok(placed) => Ok(placed),
+        Err(ArrayFault::Memory) => Err(SimFault::Memory),
+        Err(fault) => Err(SimFault::Array(fault)),
+    }
+}
+
+// The lines of a text of vectors, if each is one.
+fn vectors_in(alloc: Global, bytes: &[u8], width: usize) -> Result<Vec<&[u8]>, SimFault>
+    requires { length bytes.now ≤ 4000000000 }
+    ensures ok { IfOk result (λ found. AreVectorsOf width bytes.now (map (λ line. bits_of line.now) found.items)) }
+    ensures err { IfErr result (VectorStops width bytes.now) }
+{
+    let Ok(lines) = vector_lines(alloc, bytes) else {
+        return Err(SimFault::Memory);
+    };
+    match first_no_vector(&lines, width) {
+        None => Ok(lines),
+        Some(place) => Err(SimFault::Vector(place as u32 + 1)),
+    }
+}
+
+// The cycles of the lines, one after the other.
+fn run_lines(
+    alloc: Global,
+    placed: &Placed,
+    lines: &[&[u8]],
+    first: Vec<bool>,
+) -> Result<Vec<u8>, SimFault>
+    requires one_each { length first.items ≡ length placed.now.circuit.modules }
+    requires spots { length placed.now.spots ≡ length placed.now.circuit.modules }
+    requires few { length first.items < 2 ^ 16 }
+    ensures rests { IfOk result (λ text. Rests placed.now.circuit first.items (map (λ line. bits_of line.now) lines.now)) }
+    ensures text { IfOk result (λ text. text.items ≡ output_text (outputs placed.now.circuit first.items (map (λ line. bits_of line.now) lines.now))) }
+    ensures err { IfErr result (UnsettledBy placed.now first.items (map (λ line. bits_of line.now) lines.now)) }
+{
+    let mut bits = first;
+    let mut text = Vec::new(alloc);
+    for (cycle, line) in lines.iter().enumerate() {
+        match run_cycle(alloc, &placed.circuit, line, &mut bits, &mut text) {
+            Ok(()) => {}
+            Err(Stop::Fault(module)) => {
+                return Err(SimFault::Unsettled {
+                    cycle: cycle as u64,
+                    spot: placed.spots.as_slice()[usize::from(module)],
+                });
+            }
+            Err(Stop::Memory) => return Err(SimFault::Memory),
+        }
+    }
+    Ok(text)
+}
+
+/// Simulates an array: what its outputs show in each cycle, a line each. In a cycle the inputs are
+/// set to the line's characters and the clock is 0, the modules fire in a wave in site order, the
+/// outputs are read, the clock is 1, and a second wave is fired. A module with a start of init 0 or 1
+/// starts so, and every other module starts as `fill`.
+///
+/// `vectors` is a text of one line a cycle, with one character `0` or `1` per input; a carriage return
+/// before a line feed belongs to the line's end, and the last line may lack its line feed.
+///
+/// The refusals come in this order, each exactly where its cause stands: `Array` where the array isn't
+/// sound, `Vector` at the first line that is no vector, `Unsettled` at the first wave after which a
+/// firing would still change a bit. `Memory` where no memory was found.
+pub fn simulate(
+    alloc: Global,
+    device: &Device,
+    file: &FuseFile,
+    vectors: &[u8],
+    fill: bool,
+) -> Result<Vec<u8>, SimFault>
+    requires keeps { KeepsRules device.now file.now }
+    requires few { length vectors.now ≤ 4000000000 }
+    ensures ok { IfOk result (λ text. Simulates device.now file.now vectors.now fill text.items) }
+    ensures err { IfErr result (RefusesToSimulate device.now file.now vectors.now fill) }
+{
+    let placed = circuit_in(alloc, device, file)?;
+    let lines = vectors_in(alloc, vectors, placed.circuit.inputs.len())?;
+    let Ok(bits) = first_bits(alloc, &placed.circuit, fill) else {
+        return Err(SimFault::Memory);
+    };
+    run_lines(alloc, &placed, &lines, bits)
+}
