@@ -5,7 +5,9 @@ use Rattle.act1_outside.specs.Outside.{Shelf, SameHeld}
 use Rattle.act1_device.specs.declared.device.Device.{Device}
 use Rattle.act1_devread.specs.Text.{DeviceText}
 use Rattle.act1_blif.specs.declared.blif.Blif.{Blif}
-use Rattle.act1_blifread.specs.Constants.{ConstantText}
+use Rattle.act1_blifread.specs.Text.{BlifText}
+use Rattle.act1_fuses.specs.declared.fuses.FuseFile.{FuseFile}
+use Rattle.act1_fuses.specs.Reads.{IsTextOf}
 
 -- the most bytes that are read of a file: 16 MiB
 abbrev pub most_bytes : ℕ
@@ -28,17 +30,31 @@ ReadFailed before after name = Rose (before.read_faults name) (after.read_faults
 abbrev pub IsTooLong : Shelf → List ℕ → Type 0
 IsTooLong before name = IsTrue before.tells → (bytes : List ℕ) × (before.held name ≡ Some bytes) × (most_bytes < length bytes)
 
--- what was read under the name is the text of this device
-pub record HasDevice (before : Shelf) (name : List ℕ) (dev : Device) : Type 0 where
+-- what was read under the name is the text of this
+pub record Found {X : Type 0} (IsText : List ℕ → X → Type 0) (before : Shelf) (name : List ℕ) (x : X) : Type 0 where
   pub bytes : List ℕ
   pub read : WasRead before name bytes
-  pub text : DeviceText bytes dev
+  pub text : IsText bytes x
+
+-- what was read under the name is the text of this device
+abbrev pub HasDevice : Shelf → List ℕ → Device → Type 0
+HasDevice = Found DeviceText
 
 -- what was read under the name is the text of this netlist
-pub record HasNetlist (before : Shelf) (name : List ℕ) (net : Blif) : Type 0 where
-  pub bytes : List ℕ
-  pub read : WasRead before name bytes
-  pub text : ConstantText bytes net
+abbrev pub HasNetlist : Shelf → List ℕ → Blif → Type 0
+HasNetlist = Found BlifText
+
+-- what was read under the name is the text of this antifuse file, which keeps the rules for the device
+abbrev pub HasFuses : Device → Shelf → List ℕ → FuseFile → Type 0
+HasFuses dev = Found (IsTextOf dev)
+
+-- the text is any bytes
+abbrev pub AreBytes : List ℕ → List ℕ → Type 0
+AreBytes bytes x = x ≡ bytes
+
+-- these bytes were read under the name
+abbrev pub HasBytes : Shelf → List ℕ → List ℕ → Type 0
+HasBytes = Found AreBytes
 
 -- files were read, and nothing else was done to them
 pub record OnlyRead (before after : Shelf) : Type 0 where

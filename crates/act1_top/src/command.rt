@@ -17,4 +17,19 @@ pub enum Command {
         /// The report, which isn't written today.
         report: Word,
     },
+    /// Prints the canonical text of the netlist under `blif`. It writes no file.
+    Blif {
+        /// The netlist.
+        blif: Word,
+    },
+    /// Simulates the array of the antifuse file under `fuses` on the device under `device`, over the
+    /// vectors under `vectors`. It writes no file.
+    Sim {
+        /// The device file.
+        device: Word,
+        /// The antifuse file.
+        fuses: Word,
+        /// The input vectors.
+        vectors: Word,
+    },
 }

@@ -1,6 +1,10 @@
 use crate::word::Word;
+use act1_array::ArrayFault;
 use act1_base::Items;
+use act1_blifread::BlifFault;
+use act1_circuit::Spot;
 use act1_devread::DeviceFault;
+use act1_fuses::FuseFault;
 
 /// How a command ends, before anything is written or printed. What each way prints, writes and
 /// answers is said once, by functions of the outcome.
@@ -20,7 +24,11 @@ pub enum Outcome {
     DeviceRefused {
         fault: DeviceFault,
     },
-    /// The netlist is of a form that isn't built yet.
+    /// The netlist's text has a fault.
+    BlifRefused {
+        fault: BlifFault,
+    },
+    /// The flow isn't built yet for the netlist: it has an input, a latch or a node with inputs.
     NetlistNotBuilt,
     /// The netlist has more inputs and outputs than the device has pads.
     TooFewPads {
@@ -33,6 +41,31 @@ pub enum Outcome {
         fuses: Word,
         modules: u16,
         antifuses: u64,
+        text: Items<u8>,
+    },
+    /// The netlist was read. `text` is its canonical text.
+    Canonical {
+        text: Items<u8>,
+    },
+    /// The antifuse file isn't one for the device.
+    FusesRefused {
+        fault: FuseFault,
+    },
+    /// The array isn't sound.
+    ArrayRefused {
+        fault: ArrayFault,
+    },
+    /// The line of this number isn't an input vector.
+    VectorsRefused {
+        line: u32,
+    },
+    /// A module doesn't come to rest in this cycle.
+    Unsettled {
+        cycle: u64,
+        spot: Spot,
+    },
+    /// The array was simulated. `text` has a line of outputs a cycle.
+    Simulated {
         text: Items<u8>,
     },
 }

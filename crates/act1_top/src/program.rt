@@ -21,8 +21,8 @@ pub fn run<F: Files, S: Sink, H: Helpers>(
     out: &mut S,
     helpers: &mut H,
 ) -> u8
-    // Status 0 of `flow` is the headline.
-    ensures done { result ≡ 0 → IsDone (command_of (map string_bytes words.now)) (F.seen files.old) (F.seen files.new) }
+    // Status 0 of `flow` is the headline; status 0 of `sim` is the simulation that is printed.
+    ensures done { result ≡ 0 → IsDone (command_of (map string_bytes words.now)) (F.seen files.old) (S.seen out.old) (F.seen files.new) (S.seen out.new) }
 
     // What is printed and written is that of an outcome that the words and files allow.
     ensures ends { RunEnds (command_of (map string_bytes words.now)) (F.seen files.old) (S.seen out.old) result (F.seen files.new) (S.seen out.new) }

@@ -4,12 +4,12 @@ use act1_outside::{MemoryFiles, MemorySink, NoHelpers};
 use std::alloc::{AllocError, Global};
 use std::test::Fail;
 
-const TINY: &str =
+pub(crate) const TINY: &str =
     "format = 1\nname = \"tiny\"\nrows = 1\ncolumns = 2\npins = \"LLLLUUUU\"\nbelow = 0\nabove = 0\ntracks = [[[]]]\nlongs = []\npads = [[0, 0], [0, 1], [1, 0], [1, 1]]\n";
 
-const CONSTANTS: &str = ".outputs y z\n.names y\n1\n.names z\n.end\n";
+pub(crate) const CONSTANTS: &str = ".outputs y z\n.names y\n1\n.names z\n.end\n";
 
-const FUSES: &str =
+pub(crate) const FUSES: &str =
     "act1 fuses 1\ndevice tiny\nout 0 y\nout 1 z\nfuse 0 gnd pad 1\nfuse 0 vcc pad 0\nend\n";
 
 const DONE: &str = "done modules 0 fuses 2\nhelpers asked 0 taken 0 faults 0\n";
@@ -33,7 +33,7 @@ fn files(alloc: Global, device: &str, blif: &str) -> Result<MemoryFiles, Memory>
 }
 
 // Whether a name holds this text, or isn't there where there is none.
-fn is_held(files: &MemoryFiles, name: &str, text: Option<&str>) -> bool {
+pub(crate) fn is_held(files: &MemoryFiles, name: &str, text: Option<&str>) -> bool {
     match (files.held(name), text) {
         (Some(bytes), Some(text)) => bytes == text.as_bytes(),
         (None, None) => true,
@@ -42,7 +42,7 @@ fn is_held(files: &MemoryFiles, name: &str, text: Option<&str>) -> bool {
 }
 
 // Runs the words, and asserts the status and what is printed.
-fn runs(
+pub(crate) fn runs(
     rt: &(impl std::process::Abort + AllocGlobal),
     files: &mut MemoryFiles,
     line: &str,
@@ -61,7 +61,7 @@ fn runs(
 const FLOW: &str = "flow d.toml b.blif o.fuses r";
 
 // Runs `flow` on a device and a netlist, and asserts what is printed and what the antifuse file holds.
-fn flows(
+pub(crate) fn flows(
     rt: &(impl std::process::Abort + AllocGlobal),
     device: &str,
     blif: &str,
@@ -108,7 +108,13 @@ fn refusals(rt: HostRuntime) -> Result<(), Fail> {
 fn usage(rt: HostRuntime) -> Result<(), Fail> {
     for line in [
         "",
-        "sim d.toml o.fuses v",
+        "sim d.toml o.fuses",
+        "sim d.toml o.fuses v v",
+        "sim d.toml o.fuses -v",
+        "extract d.toml o.fuses b.blif",
+        "blif",
+        "blif b.blif b.blif",
+        "blif -b",
         "flow d.toml b.blif o.fuses",
         "flow d.toml b.blif o.fuses r r",
         "flow d.toml b.blif o.fuses -r",
@@ -141,7 +147,7 @@ fn failing_calls_of_files(rt: HostRuntime) -> Result<(), Fail> {
 // A failing print loses the line, but not the file that was written before it.
 #[test]
 fn failing_print(rt: HostRuntime) -> Result<(), Fail> {
-    for (blif, fuses) in [(CONSTANTS, Some(FUSES)), ("", None)] {
+    for (blif, fuses) in [(CONSTANTS, Some(FUSES)), (".inputs a\n", None)] {
         let mut files = files(rt.alloc(), TINY, blif)?;
         let mut out = MemorySink::new(rt.alloc());
         out.fail(1)?;
@@ -161,7 +167,13 @@ fn too_long(rt: HostRuntime) -> Result<(), Fail> {
     let mut bytes = vec![in rt.alloc(); b' '; 16_777_216]?;
     let mut files = files(rt.alloc(), TINY, CONSTANTS)?;
     files.set("b.blif", &bytes)?;
-    runs(&rt, &mut files, FLOW, 18, "not built blif\n")?;
+    runs(
+        &rt,
+        &mut files,
+        FLOW,
+        0,
+        "done modules 0 fuses 0\nhelpers asked 0 taken 0 faults 0\n",
+    )?;
     bytes.push(b' ')?;
     files.set("b.blif", &bytes)?;
     runs(&rt, &mut files, FLOW, 16, "too long b.blif\n")?;

@@ -24,7 +24,7 @@ fn word_of(alloc: Global, word: &String) -> Result<Word, Memory>
 }
 
 /// The command that the words ask for, or `Unknown` where they ask for none: exactly four words after
-/// `flow`, of which none begins with `-`.
+/// `flow`, three after `sim` or one after `blif`, of which none begins with `-`.
 pub fn command_of(alloc: Global, words: &[String]) -> Result<Command, Memory>
     ensures { IfOk result (λ command. command ≡ command_of (map string_bytes words.now)) }
 {
@@ -37,6 +37,27 @@ pub fn command_of(alloc: Global, words: &[String]) -> Result<Command, Memory>
                     blif: word_of(alloc, blif)?,
                     fuses: word_of(alloc, fuses)?,
                     report: word_of(alloc, report)?,
+                })
+            } else {
+                Ok(Command::Unknown)
+            }
+        }
+        [word, device, fuses, vectors] => {
+            let files = is_file(device) && is_file(fuses) && is_file(vectors);
+            if word.as_str() == "sim" && files {
+                Ok(Command::Sim {
+                    device: word_of(alloc, device)?,
+                    fuses: word_of(alloc, fuses)?,
+                    vectors: word_of(alloc, vectors)?,
+                })
+            } else {
+                Ok(Command::Unknown)
+            }
+        }
+        [word, blif] => {
+            if word.as_str() == "blif" && is_file(blif) {
+                Ok(Command::Blif {
+                    blif: word_of(alloc, blif)?,
                 })
             } else {
                 Ok(Command::Unknown)

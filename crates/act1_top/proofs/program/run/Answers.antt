@@ -3,11 +3,25 @@ use Rattle.std.specs.String.{string_bytes}
 use Rattle.act1_top.specs.Command.{command_of}
 use Rattle.act1_top.specs.Printing.{status_of}
 use Rattle.act1_devread.proofs.DeviceLaws.{never_both, one_device}
-use Rattle.act1_blifread.proofs.Uniqueness.{one_netlist}
+use Rattle.act1_blifread.proofs.TextLaws as netlists
 use Rattle.act1_top.proofs.Runs.{ends_before, may_end_after, answered, fault_of, never_three, status_is, usage_only, read_fault_of, long_file_of}
 use Rattle.act1_top.proofs.Done.{is_done, complete, others_kept, usage, kept}
-use Rattle.act1_top.proofs.Causes.{causes, no_constant_text}
+use Rattle.act1_fuses.proofs.FuseTexts.{never_refused, one_file}
+use Rattle.act1_sim.proofs.OneAnswers as sim
+use Rattle.act1_top.proofs.Causes.{Laws, causes}
 use Rattle.act1_top.proofs.program.run.Goals as goal
+
+laws : Laws
+laws = record {
+  device_never = never_both;
+  one_device = one_device;
+  netlist_never = netlists.never_both;
+  one_netlist = netlists.one_netlist;
+  fuses_never = never_refused;
+  one_file = one_file;
+  sim_never = sim.never_both;
+  one_refusal = sim.one_refusal;
+}
 
 pub returns-in-Ok : goal.returns-in-Ok
 returns-in-Ok g c =
@@ -26,7 +40,7 @@ returns-in-Ok g c =
       done = λ zero. is_done before after command o blank result paper may ends
           (status_is command before blank result after paper (status_of o) 0 (λ z. absurd (omega arith)) (λ z. absurd (omega arith)) answer zero) zero;
       ends = inl (o, may, ends);
-      causes = λ told no_fault p other. causes before after told never_both one_device no_constant_text one_netlist command o p blank result paper no_fault may other answer;
+      causes = λ told no_fault p other. causes laws before after told command o p blank result paper no_fault may other answer;
       complete = complete before after command o blank result paper may answer;
       usage = usage before after command o blank result paper may answer;
       no_command = λ one. usage_only before after command o may (status_is command before blank result after paper (status_of o) 1 (λ z. absurd (omega arith)) (λ z. absurd (omega arith)) answer one);
