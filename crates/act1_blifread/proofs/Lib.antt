@@ -1,4 +1,8 @@
 pub mod BuiltNetlists
+pub mod ConstantTextsLines
+pub mod ConstantTextsSaid
+pub mod ConstantTextsWhole
+pub mod ConstantTexts
 pub mod DifferentNames
 pub mod ExactNetlists
 pub mod FirstLines

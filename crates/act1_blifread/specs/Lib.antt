@@ -1,3 +1,4 @@
+pub mod ConstantLaw
 pub mod Constants
 pub mod Exact
 pub mod ExactTexts

@@ -4,6 +4,7 @@
 
 mod build;
 mod clocks;
+mod constant_law;
 mod exact;
 mod fault;
 mod graph;
@@ -23,6 +24,7 @@ mod twice;
 mod whole;
 
 pub use act1_bliftext::{BlifFault, BlifKind};
+pub use constant_law::constant_texts_are_blif;
 pub use exact::{blif_texts_are_exact, netlists_are_exact};
 pub use fault::ConstantFault;
 pub use law::constant_texts_are_exact;
