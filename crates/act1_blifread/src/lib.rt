@@ -1,5 +1,5 @@
 //! Readers of BLIF: of whole BLIF, and of the constant form, netlists whose outputs are constants, which
-//! the flow reads today.
+//! was read first.
 #![tactic(auto)]
 
 mod build;
