@@ -1,12 +1,12 @@
 -- What is said by the lines above, and by one line more.
-use Rattle.std.proofs.Common.{ℕ, ◌≡◌, ◌||◌, Bool, true, false, if◌then◌else◌, List, [], ◌∷◌, ◌++◌, length, map, Option, Some, None, refl, ap, sym, subst, ◌∙◌}
+use Rattle.std.proofs.Common.{ℕ, ◌≡◌, Bool, true, false, if◌then◌else◌, List, [], ◌∷◌, ◌++◌, length, Option, Some, None, refl, ap, sym, subst, ◌∙◌}
 use Rattle.std.proofs.lemmas.List.{append-nil}
 use Rattle.act1_bliftext.specs.Lines.{Line}
-use Rattle.act1_bliftext.specs.Forms.{form_of, names_in, names_by, latch_start}
+use Rattle.act1_bliftext.specs.Forms.{form_of, names_in, names_by}
 use Rattle.act1_bliftext.specs.Tables.{with_names, AreNumbersOf}
-use Rattle.act1_bliftext.specs.Faults.{head_above, rows_above, names_above, has_end, is_row_form, is_end_form}
+use Rattle.act1_bliftext.specs.Faults.{head_above, rows_above, names_above, has_end, is_row_form}
 use Rattle.act1_bliftext.specs.Statements.{Block, Says, AreSaid, block_of, blocks_above, earlier_blocks, is_said, form_in, numbers_in, SaysRest, marks_in}
-use Rattle.act1_bliftext.specs.Reading.{Stands, IsOpen, OpenSays, Closes, ClosesNames, IsNames, AddsSaid, SaysLine, StartIs, Opened, IsOpened, is_names_form, takes_rows}
+use Rattle.act1_bliftext.specs.Reading.{Stands, OpenSays, Closes, IsNames, AddsSaid, StartIs, IsOpened, is_names_form, takes_rows}
 use Rattle.act1_bliftext.specs.declared.form.Form.{Form}
 use Rattle.act1_bliftext.specs.declared.form.Form.TheVariants as form
 use Rattle.act1_bliftext.specs.declared.open_names.OpenNames.{OpenNames}

@@ -1,5 +1,5 @@
 -- Words and lines have no more bytes than their text.
-use Rattle.std.proofs.Common.{ℕ, ◌≡◌, ◌+◌, ◌<◌, ◌≤◌, ◌==◌, ◌&&◌, Bool, true, false, cond, if◌then◌else◌, List, [], ◌∷◌, ◌++◌, length, take, map, filter, sum_by, Option, Some, None, Result, Ok, Err, IfOk, refl, ap, sym, subst, ◌∙◌, arith, min}
+use Rattle.std.proofs.Common.{ℕ, ◌≡◌, ◌+◌, ◌<◌, ◌≤◌, ◌==◌, ◌&&◌, Bool, true, false, cond, if◌then◌else◌, List, [], ◌∷◌, ◌++◌, length, filter, sum_by, Option, Some, None, Result, Ok, Err, IfOk, refl, ap, arith}
 use Rattle.std.specs.Option.{option_map}
 use Rattle.std.specs.Borrow.{Bor}
 use Rattle.std.specs.List.{slice_split, onto_first, list_all, position_or_len}
@@ -8,9 +8,7 @@ use Rattle.std.proofs.lemmas.List.Sums.{sum_by-append, sum_by-cons}
 use Rattle.act1_base.specs.Lines.{lines_of, in_front}
 use Rattle.act1_bliftext.specs.Lines.{is_blank, has_byte, words_of, without_comment, before_backslash}
 use Rattle.act1_bliftext.specs.Places.{bytes_of, kept_bytes}
-use Rattle.act1_bliftext.specs.Reading.{open_marks}
 use Rattle.act1_bliftext.specs.declared.place.Place.{Place}
-use Rattle.act1_bliftext.specs.declared.reading.Reading.{Reading}
 use Rattle.act1_bliftext.specs.declared.fault.BlifFault.{BlifFault}
 
 -- the bytes of all words

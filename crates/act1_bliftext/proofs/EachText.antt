@@ -1,10 +1,10 @@
 -- Each text has statements or a fault of a line.
 use Rattle.std.proofs.Common.{ℕ, ◌≡◌, ◌+◌, ◌<◌, ◌≤◌, ◌^◌, ◌⊎◌, inl, inr, List, [], ◌∷◌, ◌++◌, length, reverse, Option, Some, None, refl, sym, ap, subst, ◌∙◌, arith}
-use Rattle.std.proofs.lemmas.List.Sums.{sum_by-append, sum_by-cons}
+use Rattle.std.proofs.lemmas.List.Sums.{sum_by-cons}
 use Rattle.act1_base.specs.Lines.{lines_of}
 use Rattle.act1_bliftext.specs.Lines.{Line, text_lines, line_of, words_of, without_comment, before_backslash}
 use Rattle.act1_bliftext.specs.Faults.{first_fault, names_above, LineBad}
-use Rattle.act1_bliftext.specs.Statements.{Say, StatementsOf, blocks_above, model_of}
+use Rattle.act1_bliftext.specs.Statements.{Say, StatementsOf, model_of}
 use Rattle.act1_bliftext.specs.Places.{over, Faultless, ahead, joined_words}
 use Rattle.act1_bliftext.specs.Exact.{OneOfTwo}
 use Rattle.act1_bliftext.specs.declared.fault.BlifFault.{BlifFault}
@@ -12,7 +12,7 @@ use Rattle.act1_bliftext.specs.declared.statements.Statements.{Statements}
 use Rattle.act1_bliftext.proofs.Bounds.{bytes_in, weight, add_weight, lines_weight, more_bytes, code_fits, front_fits}
 use Rattle.act1_bliftext.proofs.PlaceLemmas.{ahead_all, from_last}
 use Rattle.act1_bliftext.proofs.SomeReading.{first_bytes, reached, some_said}
-use Rattle.act1_bliftext.proofs.Valid.{says_valid, model_fits}
+use Rattle.act1_bliftext.proofs.Valid.{says_valid}
 use Rattle.act1_bliftext.proofs.WholeLines.{still_faultless}
 
 over_bytes : (lines above : List Line) → first_bytes (over lines above) ≡ first_bytes lines + first_bytes above

@@ -1,11 +1,11 @@
 -- The first fault of a line, form by form.
-use Rattle.std.proofs.Common.{ℕ, ◌≡◌, ◌<◌, ◌≤◌, ◌||◌, ◌&&◌, not, nat_lt, Bool, true, false, cond, List, [], ◌∷◌, length, map, Option, Some, None, refl, ap, sym, ◌∙◌}
+use Rattle.std.proofs.Common.{◌≡◌, ◌||◌, not, nat_lt, Bool, true, false, cond, List, [], ◌∷◌, length, Option, Some, None, refl, ap, ◌∙◌}
 use Rattle.std.specs.Option.{option_or, is_none}
-use Rattle.std.specs.List.{find, list_any}
+use Rattle.std.specs.List.{find}
 use Rattle.act1_bliftext.specs.Lines.{Line}
-use Rattle.act1_bliftext.specs.Forms.{form_of, latch_names, latch_start, is_other_latch}
+use Rattle.act1_bliftext.specs.Forms.{form_of, latch_start, is_other_latch}
 use Rattle.act1_bliftext.specs.Rows.{is_mixed, row_value}
-use Rattle.act1_bliftext.specs.Faults.{has_fault, line_kinds, fault_of, is_byte_fault, is_long, are_past_limit, head_above, rows_above, names_above, has_end, is_later, fits_under}
+use Rattle.act1_bliftext.specs.Faults.{has_fault, line_kinds, fault_of, is_byte_fault, head_above, rows_above, names_above, has_end, is_later, fits_under}
 use Rattle.act1_bliftext.specs.Reading.{own_fault, place_fault, IsNoRow}
 use Rattle.act1_bliftext.specs.declared.form.Form.{Form}
 use Rattle.act1_bliftext.specs.declared.form.Form.TheVariants as form

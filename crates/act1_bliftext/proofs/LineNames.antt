@@ -1,14 +1,14 @@
 -- The names of lines without a fault keep the rules for names.
-use Rattle.std.proofs.Common.{ℕ, zero, suc, ◌≡◌, ◌+◌, ◌-◌, ◌<◌, ◌≤◌, eqb, ltb, leb, cond, Bool, true, false, not, ◌&&◌, ◌||◌, IsTrue, List, [], ◌∷◌, ◌++◌, length, get_or, map, Option, Some, None, refl, sym, ap, subst, ◌∙◌, arith, length-append}
+use Rattle.std.proofs.Common.{ℕ, ◌≡◌, ◌-◌, ◌≤◌, eqb, ltb, leb, cond, Bool, true, false, not, ◌&&◌, ◌||◌, List, [], ◌∷◌, ◌++◌, length, get_or, Option, Some, None, refl, sym, ap, ◌∙◌, arith}
 use Rattle.std.specs.List.{list_all, list_any}
 use Rattle.std.specs.Str.{bytes_eq}
-use Rattle.std.proofs.lemmas.Bool.{and_parts, and_from, true_from_ne_false, true≢false, leb-true, le-leb, or_from, not-true, not_from_false}
+use Rattle.std.proofs.lemmas.Bool.{and_parts, and_from, or_from, not-true, not_from_false}
 use Rattle.std.proofs.lemmas.Bool.Decides.{nat_tests}
 use Rattle.std.proofs.lemmas.List.Folds.{list_all-append, list_any-append}
 use Rattle.std.proofs.lemmas.Slice.Eq.{bytes_eq-Decides}
 use Rattle.act1_base.specs.Names.{is_name_byte, is_name, are_different}
 use Rattle.act1_bliftext.specs.Lines.{Line}
-use Rattle.act1_bliftext.specs.Forms.{form_of, names_by, names_in, control_names, latch_control, latch_names}
+use Rattle.act1_bliftext.specs.Forms.{form_of, names_by, control_names, latch_control, latch_names}
 use Rattle.act1_bliftext.specs.Tables.{with_name, with_names}
 use Rattle.act1_bliftext.specs.Faults.{is_fine_word, is_bad_word, is_byte_fault, is_long, are_past_limit, is_limit_fault, is_after_fault, fault_of, names_above, is_later, has_end}
 use Rattle.act1_bliftext.specs.Reading.{IsNoRow, own_fault, place_fault}

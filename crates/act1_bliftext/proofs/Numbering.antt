@@ -1,5 +1,5 @@
 -- Names and their numbers.
-use Rattle.std.proofs.Common.{ℕ, zero, suc, ◌≡◌, ◌<◌, ◌≤◌, ◌+◌, Bool, true, false, ◌||◌, if◌then◌else◌, nat_lt, List, [], ◌∷◌, ◌++◌, length, get_or, take, drop, map, Option, Some, None, Result, Ok, Err, refl, sym, ap, subst, ◌∙◌, arith, length-append}
+use Rattle.std.proofs.Common.{ℕ, zero, suc, ◌≡◌, ◌<◌, ◌≤◌, ◌+◌, Bool, true, false, ◌||◌, if◌then◌else◌, nat_lt, List, [], ◌∷◌, ◌++◌, length, get_or, take, drop, map, Option, Some, Result, Ok, Err, refl, sym, ap, subst, ◌∙◌, arith, length-append}
 use Rattle.std.specs.Prelude.{slice_get}
 use Rattle.std.specs.Str.{bytes_eq}
 use Rattle.std.proofs.lemmas.List.{map-append}
@@ -16,7 +16,6 @@ use Rattle.act1_bliftext.specs.Numbering.{Numbers, NumbersAll, AddsNames}
 use Rattle.act1_bliftext.proofs.WordLists.{texts, next_text, more_texts, no_text, all_texts}
 use Rattle.act1_bliftext.specs.Tables.{with_name, with_names, AreNumbersOf}
 use Rattle.act1_bliftext.specs.declared.fault.BlifKind.{BlifKind}
-use Rattle.act1_bliftext.specs.declared.fault.BlifKind.TheVariants.{Limit}
 
 -- what stands at a place stays there when more comes behind
 pub get_kept : (xs ys : List (List ℕ)) (n : ℕ) (w : List ℕ) → slice_get xs n ≡ Some w → slice_get (xs ++ ys) n ≡ Some w

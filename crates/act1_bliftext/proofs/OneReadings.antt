@@ -1,5 +1,5 @@
 -- A text says one thing.
-use Rattle.std.proofs.Common.{ℕ, zero, suc, ◌≡◌, Bool, true, false, not, ◌&&◌, ◌||◌, IsTrue, List, [], ◌∷◌, ◌++◌, length, map, reverse, Option, Some, None, refl, sym, ap, subst, ◌∙◌}
+use Rattle.std.proofs.Common.{ℕ, zero, suc, ◌≡◌, Bool, true, false, not, ◌||◌, IsTrue, List, [], ◌∷◌, ◌++◌, length, map, reverse, Option, Some, None, refl, sym, ap, subst, ◌∙◌}
 use Rattle.std.specs.Prelude.{slice_get}
 use Rattle.std.specs.List.{list_any}
 use Rattle.std.specs.Str.{bytes_eq}
@@ -13,15 +13,13 @@ use Rattle.act1_logic.specs.declared.cover.Cover.{Cover}
 use Rattle.act1_logic.specs.declared.cover.Mark.{Mark}
 use Rattle.act1_logic.specs.declared.cover.Row.{Row}
 use Rattle.act1_bliftext.specs.Lines.{Line, text_lines}
-use Rattle.act1_bliftext.specs.Forms.{names_in, latch_start}
+use Rattle.act1_bliftext.specs.Forms.{names_in}
 use Rattle.act1_bliftext.specs.Tables.{AreNumbersOf}
-use Rattle.act1_bliftext.specs.Faults.{first_fault, names_above, LineBad}
+use Rattle.act1_bliftext.specs.Faults.{names_above}
 use Rattle.act1_bliftext.specs.Rules.{are_statements}
-use Rattle.act1_bliftext.specs.Statements.{Block, Say, Says, SaysRest, AreSaid, StatementsOf, blocks_above, form_in, numbers_in, control_number, marks_in}
-use Rattle.act1_bliftext.specs.Places.{over, Faultless}
+use Rattle.act1_bliftext.specs.Statements.{Block, Says, SaysRest, AreSaid, blocks_above, form_in, numbers_in, control_number, marks_in}
+use Rattle.act1_bliftext.specs.Places.{Faultless}
 use Rattle.act1_bliftext.specs.Exact.{NeverBoth, OneReading, OneFault}
-use Rattle.act1_bliftext.specs.declared.fault.BlifFault.{BlifFault}
-use Rattle.act1_bliftext.specs.declared.form.Form.TheVariants as form
 use Rattle.act1_bliftext.specs.declared.statement.NumberedStatement.{NumberedStatement}
 use Rattle.act1_bliftext.specs.declared.statement.Statement.{Statement}
 use Rattle.act1_bliftext.specs.declared.statement.Statement.TheVariants as said

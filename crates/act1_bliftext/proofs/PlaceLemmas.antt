@@ -1,18 +1,17 @@
 -- A text read line by line.
-use Rattle.std.proofs.Common.{ℕ, ◌≡◌, ◌+◌, ◌<◌, ◌≤◌, Bool, true, false, cond, ◌⊎◌, inl, inr, List, [], ◌∷◌, ◌++◌, length, take, map, filter, sum_by, reverse, Option, Some, None, Result, Ok, Err, refl, ap, sym, subst, ◌∙◌, arith, append_assoc, length-append}
-use Rattle.std.specs.Option.{option_or, option_map}
+use Rattle.std.proofs.Common.{ℕ, ◌≡◌, ◌+◌, ◌<◌, Bool, true, false, cond, inl, inr, List, [], ◌∷◌, ◌++◌, length, filter, reverse, Option, Some, None, Result, Ok, Err, refl, ap, sym, subst, ◌∙◌, arith, append_assoc}
 use Rattle.std.specs.Borrow.{Bor}
-use Rattle.std.specs.List.{flat_map, slice_split, onto_first, list_all}
+use Rattle.std.specs.List.{flat_map, slice_split, onto_first}
 use Rattle.std.proofs.lemmas.List.{append-nil}
 use Rattle.std.proofs.lemmas.List.Elements.{filter-append}
 use Rattle.std.proofs.lemmas.List.Splits.{length-slice_split}
-use Rattle.act1_base.specs.Lines.{lines_of, in_front}
+use Rattle.act1_base.specs.Lines.{lines_of}
 use Rattle.act1_bliftext.specs.Lines.{Line, Joined, line_of, text_lines, is_blank, has_byte, words_of, without_comment, before_backslash, joined_from, joined_before, onto_next}
 use Rattle.act1_bliftext.specs.Faults.{first_fault}
 use Rattle.act1_bliftext.specs.Reading.{IsRead}
 use Rattle.act1_bliftext.specs.Statements.{Say, StatementsOf}
 use Rattle.act1_bliftext.specs.declared.statements.Statements.{Statements}
-use Rattle.act1_bliftext.specs.Places.{over, Faultless, IsFault, TakesLines, IsPlace, IsEnd, StepGives, AllGives, IsWhole, ahead, joined_words, bytes_of}
+use Rattle.act1_bliftext.specs.Places.{over, IsFault, TakesLines, IsPlace, IsEnd, AllGives, IsWhole, ahead, joined_words, bytes_of}
 use Rattle.act1_bliftext.specs.declared.fault.BlifFault.{BlifFault}
 use Rattle.act1_bliftext.specs.declared.place.Place.{Place}
 use Rattle.act1_bliftext.specs.declared.reading.Reading.{Reading}

@@ -1,11 +1,11 @@
 -- Worked examples of texts and their first faults.
-use Rattle.std.proofs.Common.{ℕ, ◌≡◌, true, false, List, [], ◌∷◌, ◌++◌, Some, None, refl}
+use Rattle.std.proofs.Common.{ℕ, ◌≡◌, true, false, List, [], ◌∷◌, Some, None, refl}
 use Rattle.std.specs.Prelude.{codes, replicate}
 use Rattle.std.specs.List.{join_with_byte}
-use Rattle.act1_bliftext.specs.Lines.{Line, text_lines, without_comment, before_backslash, words_of}
+use Rattle.act1_bliftext.specs.Lines.{text_lines, before_backslash}
 use Rattle.act1_bliftext.specs.Forms.{form_of, control_names, latch_names, latch_start}
 use Rattle.act1_bliftext.specs.Tables.{with_names}
-use Rattle.act1_bliftext.specs.Faults.{LineBad, fault_of, first_fault, names_above, is_limit_fault, is_shape_fault, is_long}
+use Rattle.act1_bliftext.specs.Faults.{LineBad, fault_of, first_fault, is_limit_fault, is_shape_fault, is_long}
 use Rattle.act1_bliftext.specs.declared.fault.BlifKind.TheVariants as kind
 use Rattle.act1_bliftext.specs.declared.form.Form.TheVariants as form
 

@@ -1,5 +1,5 @@
 -- Lines without a fault say something.
-use Rattle.std.proofs.Common.{ℕ, zero, suc, ◌≡◌, ◌+◌, ◌-◌, ◌<◌, ◌≤◌, ◌^◌, eqb, ltb, leb, cond, Bool, true, false, not, ◌&&◌, ◌||◌, IsTrue, List, [], ◌∷◌, ◌++◌, length, map, sum_by, Option, Some, None, refl, sym, ap, subst, ◌∙◌, arith, length-append, zero-add}
+use Rattle.std.proofs.Common.{ℕ, zero, suc, ◌≡◌, ◌+◌, ◌<◌, ◌≤◌, ◌^◌, eqb, ltb, leb, cond, Bool, true, false, not, ◌&&◌, ◌||◌, List, [], ◌∷◌, ◌++◌, length, map, Option, Some, None, refl, sym, ap, subst, ◌∙◌, arith, length-append, zero-add}
 use Rattle.std.specs.Prelude.{slice_get}
 use Rattle.std.specs.Option.{is_none, option_or}
 use Rattle.std.specs.List.{list_any, list_all}
@@ -8,19 +8,18 @@ use Rattle.std.proofs.lemmas.Bool.{and_parts, and_from, eq-eqb, le-leb, lt-ltb}
 use Rattle.std.proofs.lemmas.Bool.Decides.{nat_tests}
 use Rattle.std.proofs.lemmas.List.{length-map, map-append}
 use Rattle.std.proofs.lemmas.List.Folds.{list_all-append}
-use Rattle.std.proofs.lemmas.List.Sums.{sum_by-append, sum_by-cons}
+use Rattle.std.proofs.lemmas.List.Sums.{sum_by-append}
 use Rattle.std.proofs.lemmas.Slice.Eq.{bytes_eq-Decides}
 use Rattle.act1_logic.specs.Rows.{is_cover}
 use Rattle.act1_logic.specs.declared.cover.Cover.{Cover}
-use Rattle.act1_logic.specs.declared.cover.Mark.{Mark}
 use Rattle.act1_logic.specs.declared.cover.Row.{Row}
 use Rattle.act1_bliftext.specs.Lines.{Line}
 use Rattle.act1_bliftext.specs.Forms.{form_of, names_by, names_in, latch_names, latch_control, latch_start, control_names, start_by, is_other_type}
-use Rattle.act1_bliftext.specs.Rows.{is_row_of, are_parts, mark_of, marks_by, row_marks, row_value, is_mixed, is_mark, is_value}
+use Rattle.act1_bliftext.specs.Rows.{is_row_of, mark_of, marks_by, row_marks, is_mark, is_value}
 use Rattle.act1_bliftext.specs.Tables.{with_name, with_names, AreNumbersOf}
-use Rattle.act1_bliftext.specs.Faults.{is_row_form, names_above, fault_of, head_above, rows_above, fits_under, has_end, is_later, is_after_fault, is_limit_fault, is_shape_fault, is_type_fault, is_init_fault, is_byte_fault, are_past_limit}
+use Rattle.act1_bliftext.specs.Faults.{is_row_form, names_above, fault_of, head_above, fits_under, has_end, are_past_limit}
 use Rattle.act1_bliftext.specs.Latches.{latch_fault}
-use Rattle.act1_bliftext.specs.Statements.{AreSaid, blocks_above, earlier_blocks, control_number, marks_in, is_said}
+use Rattle.act1_bliftext.specs.Statements.{AreSaid, blocks_above, earlier_blocks, control_number, is_said}
 use Rattle.act1_bliftext.specs.Reading.{Stands, Closes, IsOpen, HasRow, AddsSaid, SaysLine, Opened, IsNoRow, mark_count, open_marks, own_fault, value_after, is_names_form}
 use Rattle.act1_bliftext.specs.Places.{Faultless}
 use Rattle.act1_bliftext.specs.declared.fault.BlifKind.{BlifKind}
@@ -31,12 +30,12 @@ use Rattle.act1_bliftext.specs.declared.open_names.OpenNames.{OpenNames}
 use Rattle.act1_bliftext.specs.declared.statement.NumberedStatement.{NumberedStatement}
 use Rattle.act1_bliftext.specs.declared.statement.Statement.TheVariants as said
 use Rattle.act1_bliftext.proofs.Blocks.{closes_said, stands_quiet, stands_said, stands_names}
-use Rattle.act1_bliftext.proofs.FaultParts.{of_no_row, of_row, parts, if_so}
+use Rattle.act1_bliftext.proofs.FaultParts.{of_no_row, of_row, parts}
 use Rattle.act1_bliftext.proofs.LatchLemmas.{own_latch}
 use Rattle.act1_bliftext.proofs.LineNames.{no_byte_fault, no_limit_fault, or_parts, not_true}
 use Rattle.act1_bliftext.proofs.Numbering.{number_kept}
 use Rattle.act1_bliftext.proofs.TakesForm.{not_after, not_so}
-use Rattle.act1_bliftext.proofs.TakesRow.{as_many, none_fits, fits_is, mixes_is, same_names, earlier_same, still_open, value_of_row}
+use Rattle.act1_bliftext.proofs.TakesRow.{as_many, none_fits, fits_is, same_names, earlier_same, still_open, value_of_row}
 
 -- a name with its number
 abbrev Numbered : List (List ℕ) → List ℕ → Type 0

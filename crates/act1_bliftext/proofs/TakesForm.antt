@@ -1,21 +1,20 @@
 -- A line that is no row.
-use Rattle.std.proofs.Common.{ℕ, ◌≡◌, ◌+◌, ◌≤◌, ◌||◌, Bool, true, false, cond, List, [], ◌∷◌, ◌++◌, length, map, Option, Some, None, Result, Ok, Err, IfOk, refl, ap, sym, subst, ◌∙◌, arith}
+use Rattle.std.proofs.Common.{ℕ, ◌≡◌, ◌≤◌, ◌||◌, Bool, true, false, cond, List, [], ◌∷◌, Option, Some, None, Result, Ok, Err, IfOk, refl, ap, sym, ◌∙◌, arith}
 use Rattle.std.specs.Option.{option_or}
 use Rattle.act1_base.specs.declared.texts.Stop.{Stop}
 use Rattle.act1_base.specs.declared.texts.Stop.TheVariants.{Fault, Memory}
 use Rattle.act1_bliftext.specs.Lines.{Line}
-use Rattle.act1_bliftext.specs.Forms.{form_of, names_by, names_in}
+use Rattle.act1_bliftext.specs.Forms.{form_of, names_by}
 use Rattle.act1_bliftext.specs.Tables.{with_names}
-use Rattle.act1_bliftext.specs.Faults.{names_above, has_end, is_later, is_byte_fault, is_after_fault, is_limit_fault, is_end_form, fault_of}
+use Rattle.act1_bliftext.specs.Faults.{names_above, has_end, is_later, is_byte_fault, is_after_fault, is_end_form}
 use Rattle.act1_bliftext.specs.Statements.{AreSaid, blocks_above, model_of, model_by}
-use Rattle.act1_bliftext.specs.Reading.{IsRead, IsClosed, IsNoRow, FormGives, Follows, Adds, IsOpened, TakesLine, Stands, own_fault, place_fault, rest_fault, model_after, open_marks, mark_count}
+use Rattle.act1_bliftext.specs.Reading.{IsRead, IsClosed, IsNoRow, FormGives, Adds, IsOpened, TakesLine, Stands, own_fault, place_fault, rest_fault, model_after, open_marks, mark_count}
 use Rattle.act1_bliftext.specs.declared.form.Form.{Form}
 use Rattle.act1_bliftext.specs.declared.form.Form.TheVariants as form
 use Rattle.act1_bliftext.specs.declared.fault.BlifKind.{BlifKind}
 use Rattle.act1_bliftext.specs.declared.fault.BlifKind.TheVariants as kind
 use Rattle.act1_bliftext.specs.declared.open_names.OpenNames.{OpenNames}
 use Rattle.act1_bliftext.specs.declared.reading.Reading.{Reading}
-use Rattle.act1_bliftext.specs.declared.statement.NumberedStatement.{NumberedStatement}
 use Rattle.act1_bliftext.proofs.FaultParts.{of_no_row, parts}
 use Rattle.act1_bliftext.proofs.Blocks.{closes_said, stands_quiet, stands_said, stands_names}
 

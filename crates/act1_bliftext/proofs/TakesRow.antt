@@ -1,5 +1,5 @@
 -- A row.
-use Rattle.std.proofs.Common.{ℕ, ◌≡◌, ◌+◌, ◌-◌, ◌≤◌, ◌||◌, not, Bool, true, false, cond, if◌then◌else◌, ◌⊎◌, inl, inr, List, [], ◌∷◌, ◌++◌, length, map, Option, Some, None, Result, Ok, Err, IfOk, refl, ap, sym, subst, ◌∙◌, arith, length-append}
+use Rattle.std.proofs.Common.{ℕ, ◌≡◌, ◌+◌, ◌-◌, ◌≤◌, ◌||◌, not, Bool, true, false, if◌then◌else◌, ◌⊎◌, inl, inr, List, [], ◌∷◌, ◌++◌, length, map, Option, Some, None, Result, Ok, Err, IfOk, refl, ap, sym, subst, ◌∙◌, arith, length-append}
 use Rattle.std.proofs.lemmas.List.{length-map, map-append}
 use Rattle.std.specs.Prelude.{slice_get}
 use Rattle.act1_base.specs.declared.texts.Stop.{Stop}
@@ -7,21 +7,19 @@ use Rattle.act1_base.specs.declared.texts.Stop.TheVariants.{Fault, Memory}
 use Rattle.act1_logic.specs.declared.cover.Mark.{Mark}
 use Rattle.act1_logic.specs.declared.cover.Row.{Row}
 use Rattle.act1_bliftext.specs.Lines.{Line}
-use Rattle.act1_bliftext.specs.Forms.{form_of, names_by, names_in}
+use Rattle.act1_bliftext.specs.Forms.{form_of, names_by}
 use Rattle.act1_bliftext.specs.Rows.{is_row_of, is_one, value_by, marks_by, mark_of, row_value, row_marks, is_mixed, output_of, differ}
 use Rattle.act1_bliftext.specs.Tables.{with_names, AreNumbersOf}
-use Rattle.act1_bliftext.specs.Faults.{names_above, has_end, is_later, is_byte_fault, is_end_form, is_row_form, fault_of, fits_under, fits_form, head_above, rows_above}
-use Rattle.act1_bliftext.specs.Statements.{AreSaid, blocks_above, earlier_blocks, model_of, model_by, marks_in}
-use Rattle.act1_bliftext.specs.Reading.{IsRead, TakesLine, Stands, IsOpen, OpenSays, RowAdded, RowGives, PartsGive, HasRow, UnderGives, mixes, value_after, takes_rows, is_names_form, open_marks, mark_count}
+use Rattle.act1_bliftext.specs.Faults.{names_above, has_end, is_byte_fault, is_end_form, is_row_form, fault_of, fits_under, fits_form, head_above, rows_above}
+use Rattle.act1_bliftext.specs.Statements.{AreSaid, earlier_blocks, model_of, marks_in}
+use Rattle.act1_bliftext.specs.Reading.{IsRead, TakesLine, Stands, IsOpen, OpenSays, RowAdded, RowGives, HasRow, UnderGives, mixes, value_after, takes_rows, is_names_form, open_marks}
 use Rattle.act1_bliftext.specs.declared.form.Form.{Form}
 use Rattle.act1_bliftext.specs.declared.form.Form.TheVariants as form
 use Rattle.act1_bliftext.specs.declared.fault.BlifKind.{BlifKind}
 use Rattle.act1_bliftext.specs.declared.fault.BlifKind.TheVariants as kind
 use Rattle.act1_bliftext.specs.declared.open_names.OpenNames.{OpenNames}
 use Rattle.act1_bliftext.specs.declared.reading.Reading.{Reading}
-use Rattle.act1_bliftext.specs.declared.statement.NumberedStatement.{NumberedStatement}
 use Rattle.act1_bliftext.proofs.FaultParts.{of_row, if_so}
-use Rattle.act1_bliftext.proofs.Blocks.{said_kept}
 
 -- there are as many numbers as names
 pub as_many : (names : List (List ℕ)) (numbers : List ℕ) (words : List (List ℕ)) → AreNumbersOf names numbers words → length numbers ≡ length words

@@ -1,5 +1,5 @@
 -- What lines without a fault say keeps the rules for statements.
-use Rattle.std.proofs.Common.{ℕ, zero, suc, ◌≡◌, ◌+◌, ◌-◌, ◌<◌, ◌≤◌, eqb, ltb, leb, cond, Bool, true, false, not, ◌&&◌, ◌||◌, IsTrue, List, [], ◌∷◌, ◌++◌, length, get_or, map, Option, Some, None, refl, sym, ap, subst, ◌∙◌, arith}
+use Rattle.std.proofs.Common.{ℕ, ◌≡◌, ◌-◌, ◌≤◌, eqb, ltb, leb, cond, Bool, true, false, ◌&&◌, IsTrue, List, [], ◌∷◌, length, map, Option, Some, None, refl, sym, ap, subst, ◌∙◌, arith}
 use Rattle.std.specs.Prelude.{slice_get}
 use Rattle.std.specs.List.{list_all, list_any}
 use Rattle.std.proofs.lemmas.Bool.{and_parts, and_from, le-leb, lt-ltb, eq-eqb}
@@ -8,11 +8,11 @@ use Rattle.std.proofs.lemmas.List.Folds.{list_all-append}
 use Rattle.std.proofs.lemmas.Option.{slice_get_within}
 use Rattle.act1_base.specs.Names.{is_name, are_different}
 use Rattle.act1_bliftext.specs.Lines.{Line}
-use Rattle.act1_bliftext.specs.Forms.{form_of, names_by, names_in, init_value, start_by, latch_start, model_name}
+use Rattle.act1_bliftext.specs.Forms.{form_of, names_in, init_value, start_by, latch_start, model_name}
 use Rattle.act1_bliftext.specs.Tables.{AreNumbersOf}
-use Rattle.act1_bliftext.specs.Faults.{is_bad_word, is_long, is_limit_fault, is_byte_fault, fault_of, names_above}
+use Rattle.act1_bliftext.specs.Faults.{is_bad_word, is_long, fault_of, names_above}
 use Rattle.act1_bliftext.specs.Rules.{are_below, is_control, is_statement, is_model, are_statements}
-use Rattle.act1_bliftext.specs.Statements.{Block, Say, Says, SaysRest, AreSaid, blocks_above, model_of, model_by, form_in, numbers_in, control_number}
+use Rattle.act1_bliftext.specs.Statements.{Block, Say, SaysRest, AreSaid, blocks_above, model_of, model_by, numbers_in, control_number}
 use Rattle.act1_bliftext.specs.Reading.{IsRead, IsClosed}
 use Rattle.act1_bliftext.specs.Places.{Faultless}
 use Rattle.act1_bliftext.specs.declared.form.Form.{Form}
@@ -22,7 +22,7 @@ use Rattle.act1_bliftext.specs.declared.statement.NumberedStatement.{NumberedSta
 use Rattle.act1_bliftext.specs.declared.statement.Statement.{Statement}
 use Rattle.act1_bliftext.specs.declared.statement.Statement.TheVariants as said
 use Rattle.act1_bliftext.proofs.Blocks.{closes_said}
-use Rattle.act1_bliftext.proofs.LineNames.{AreNames, names_fit, or_parts, words_are_names, no_byte_fault, no_limit_fault}
+use Rattle.act1_bliftext.proofs.LineNames.{names_fit, or_parts, words_are_names, no_byte_fault, no_limit_fault}
 
 model_named : (rest : List (List ℕ)) → list_any is_bad_word rest ≡ false → list_any is_long rest ≡ false → is_model (model_name rest) ≡ true
 model_named [] h k = refl

@@ -1,14 +1,14 @@
 -- Lines one after the other.
-use Rattle.std.proofs.Common.{ℕ, ◌≡◌, ◌+◌, ◌<◌, ◌≤◌, ◌⊎◌, inl, inr, List, [], ◌∷◌, ◌++◌, length, map, sum_by, reverse, Option, Some, None, Result, Ok, Err, refl, ap, sym, subst, ◌∙◌, arith, append_assoc}
+use Rattle.std.proofs.Common.{ℕ, ◌≡◌, ◌<◌, inr, List, [], ◌∷◌, ◌++◌, length, reverse, Option, Some, None, Ok, Err, refl, ap, sym, subst, ◌∙◌, arith, append_assoc}
 use Rattle.std.specs.Option.{option_or}
 use Rattle.std.specs.Borrow.{Bor}
 use Rattle.std.proofs.lemmas.Grind.{reverse_onto}
 use Rattle.act1_base.specs.declared.texts.Stop.{Stop}
-use Rattle.act1_base.specs.declared.texts.Stop.TheVariants.{Fault, Memory}
+use Rattle.act1_base.specs.declared.texts.Stop.TheVariants.{Fault}
 use Rattle.act1_bliftext.specs.Lines.{Line, line_of}
 use Rattle.act1_bliftext.specs.Faults.{first_fault, fault_at, fault_of}
 use Rattle.act1_bliftext.specs.Reading.{IsRead, TakesLine}
-use Rattle.act1_bliftext.specs.Places.{over, Faultless, IsFault, TakesLines, bytes_of}
+use Rattle.act1_bliftext.specs.Places.{over, Faultless, TakesLines, bytes_of}
 use Rattle.act1_bliftext.specs.declared.fault.BlifFault.{BlifFault}
 use Rattle.act1_bliftext.specs.declared.fault.BlifKind.{BlifKind}
 use Rattle.act1_bliftext.specs.declared.reading.Reading.{Reading}

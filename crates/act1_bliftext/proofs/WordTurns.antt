@@ -1,8 +1,7 @@
 -- The words of a line, found byte after byte.
-use Rattle.std.proofs.Common.{◌≡◌, ℕ, Bool, true, false, ◌+◌, ◌-◌, ◌<◌, ◌≤◌, nat_lt, if◌then◌else◌, List, [], ◌∷◌, ◌++◌, length, get_or, drop, take, filter, refl, sym, ap, ◌∙◌, arith, append_assoc, length-drop, slice_range}
+use Rattle.std.proofs.Common.{◌≡◌, ℕ, Bool, true, false, ◌+◌, ◌-◌, ◌<◌, ◌≤◌, if◌then◌else◌, List, [], ◌∷◌, ◌++◌, length, get_or, drop, take, filter, refl, sym, ap, ◌∙◌, arith, append_assoc, length-drop, slice_range}
 use Rattle.std.specs.List.{slice_split, onto_first}
 use Rattle.std.proofs.lemmas.List.{append-nil, drop_more, drop_all, take_more, take_all, get_or-drop}
-use Rattle.std.proofs.lemmas.List.Splits.{slice_split-cons_yes, slice_split-cons_no}
 use Rattle.act1_bliftext.specs.Lines.{is_blank, has_byte, words_of, word_before}
 
 -- the words, behind the front of a word

@@ -1,5 +1,5 @@
 -- What the reader makes of the words of a latch.
-use Rattle.std.specs.Prelude.{ℕ, ◌≡◌, Bool, true, false, List, [], ◌∷◌, length, Option, Some, None, Result, Ok, Err, if◌then◌else◌, nat_lt}
+use Rattle.std.specs.Prelude.{ℕ, ◌≡◌, List, [], ◌∷◌, length, Option, Some, None, Result, Ok, Err, if◌then◌else◌, nat_lt}
 use Rattle.std.specs.Option.{option_map, is_none}
 use Rattle.std.specs.Borrow.{Bor}
 use Rattle.act1_bliftext.specs.Forms.{init_value, start_by, is_other_type, latch_control}

@@ -1,5 +1,5 @@
 -- What the steps of numbering answer.
-use Rattle.std.specs.Prelude.{ℕ, ◌≡◌, ◌<◌, ◌≤◌, Bool, true, false, List, [], ◌∷◌, length, Some, Result, Ok, Err, slice_get}
+use Rattle.std.specs.Prelude.{ℕ, ◌≡◌, ◌<◌, ◌≤◌, true, false, List, length, Some, Result, Ok, Err, slice_get}
 use Rattle.act1_base.specs.declared.texts.Stop.{Stop}
 use Rattle.act1_base.specs.declared.texts.Stop.TheVariants.{Fault, Memory}
 use Rattle.act1_bliftext.specs.Faults.{are_past_limit}

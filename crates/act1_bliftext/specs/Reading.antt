@@ -1,16 +1,16 @@
 -- What the reader keeps of the lines above, and what it makes of the next one.
-use Rattle.std.specs.Prelude.{ℕ, ◌≡◌, ◌++◌, ◌+◌, ◌||◌, ◌<◌, ◌≤◌, ◌^◌, Bool, true, false, List, [], ◌∷◌, length, map, sum_by, Option, Some, None, Result, Ok, Err, if◌then◌else◌}
-use Rattle.std.specs.Option.{option_or, is_none}
+use Rattle.std.specs.Prelude.{ℕ, ◌≡◌, ◌++◌, ◌+◌, ◌||◌, Bool, true, false, List, [], ◌∷◌, length, map, sum_by, Option, Some, None, Result, Ok, Err, if◌then◌else◌}
+use Rattle.std.specs.Option.{option_or}
 use Rattle.act1_base.specs.declared.texts.Stop.{Stop}
 use Rattle.act1_base.specs.declared.texts.Stop.TheVariants.{Fault, Memory}
 use Rattle.act1_logic.specs.declared.cover.Mark.{Mark}
 use Rattle.act1_logic.specs.declared.cover.Row.{Row}
 use Rattle.act1_bliftext.specs.Lines.{Line}
-use Rattle.act1_bliftext.specs.Forms.{form_of, names_by, names_in, latch_start, latch_names, is_other_latch, model_name}
+use Rattle.act1_bliftext.specs.Forms.{form_of, names_by, latch_start, model_name}
 use Rattle.act1_bliftext.specs.Rows.{are_parts, mark_of, is_one, row_marks, output_of, differ}
 use Rattle.act1_bliftext.specs.Tables.{with_names, AreNumbersOf}
-use Rattle.act1_bliftext.specs.Faults.{head_above, rows_above, names_above, has_end, is_later, is_end_form, is_byte_fault, is_word_fault, is_shape_fault, is_type_fault, is_init_fault, is_after_fault, is_limit_fault, are_past_limit, fault_of}
-use Rattle.act1_bliftext.specs.Statements.{model_of, blocks_above, earlier_blocks, marks_in, AreSaid, form_in, numbers_in, control_number}
+use Rattle.act1_bliftext.specs.Faults.{head_above, rows_above, names_above, has_end, is_later, is_end_form, is_word_fault, is_shape_fault, is_type_fault, is_init_fault, is_after_fault, is_limit_fault, are_past_limit, fault_of}
+use Rattle.act1_bliftext.specs.Statements.{model_of, blocks_above, earlier_blocks, marks_in, AreSaid, form_in, numbers_in}
 use Rattle.act1_bliftext.specs.declared.form.Form.{Form}
 use Rattle.act1_bliftext.specs.declared.form.Form.TheVariants as form
 use Rattle.act1_bliftext.specs.declared.fault.BlifKind.{BlifKind}

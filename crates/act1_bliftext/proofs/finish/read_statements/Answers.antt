@@ -1,5 +1,5 @@
 use Rattle.act1_bliftext.specs.Lines.{text_lines}
-use Rattle.act1_bliftext.proofs.PlaceLemmas.{is_whole, text_says}
+use Rattle.act1_bliftext.proofs.PlaceLemmas.{is_whole}
 use Rattle.act1_bliftext.proofs.finish.read_statements.Goals as goal
 
 pub statements_of-requires : goal.statements_of-requires

@@ -1,4 +1,3 @@
-use Rattle.std.proofs.Common.{sym, ◌∙◌}
 use Rattle.act1_bliftext.specs.Faults.{is_bad_word}
 use Rattle.act1_bliftext.proofs.WordLists.{any_found, any_next, any_none, not_not, not_so}
 use Rattle.act1_bliftext.proofs.forms.has_bad.Goals as goal

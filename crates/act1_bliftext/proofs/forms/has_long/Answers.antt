@@ -1,6 +1,6 @@
 use Rattle.std.proofs.Common.{sym, ◌∙◌}
 use Rattle.act1_bliftext.specs.Faults.{is_long}
-use Rattle.act1_bliftext.proofs.WordLists.{any_found, any_next, any_none, not_not, not_so}
+use Rattle.act1_bliftext.proofs.WordLists.{any_found, any_next, any_none}
 use Rattle.act1_bliftext.proofs.forms.has_long.Goals as goal
 
 pub returns-then-is_long : goal.returns-then-is_long

@@ -1,4 +1,4 @@
-use Rattle.std.proofs.Common.{[], refl}
+use Rattle.std.proofs.Common.{refl}
 use Rattle.act1_bliftext.proofs.PlaceLemmas.{behind_line}
 use Rattle.act1_bliftext.proofs.read.end_line.Goals as goal
 

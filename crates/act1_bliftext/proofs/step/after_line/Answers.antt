@@ -1,5 +1,4 @@
-use Rattle.std.proofs.Common.{◌≡◌, sym, ◌∙◌}
-use Rattle.act1_bliftext.specs.declared.form.Form.TheVariants as form
+use Rattle.std.proofs.Common.{sym, ◌∙◌}
 use Rattle.act1_bliftext.proofs.FaultParts.{byte_first}
 use Rattle.act1_bliftext.proofs.TakesForm.{takes_form, gives_marks, no_row}
 use Rattle.act1_bliftext.proofs.WordLists.{texts}

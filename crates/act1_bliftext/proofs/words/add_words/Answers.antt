@@ -1,4 +1,4 @@
-use Rattle.std.proofs.Common.{◌≡◌, ◌≤◌, ◌+◌, map, arith, List, ℕ, sym, ◌∙◌}
+use Rattle.std.proofs.Common.{arith, sym, ◌∙◌}
 use Rattle.act1_bliftext.proofs.WordTurns.{blank_step, other_step, last_word}
 use Rattle.act1_bliftext.proofs.words.add_words.Goals as goal
 use Rattle.act1_bliftext.proofs.words.add_words.Goals.{then-is_blank+in_ok-add_word, else-is_blank}

@@ -1,5 +1,3 @@
-use Rattle.std.proofs.Common.{ℕ, List, ◌≡◌, ◌∷◌, ◌++◌, [], sym, ap, ◌∙◌}
-use Rattle.act1_bliftext.specs.Lines.{before_backslash}
 use Rattle.act1_bliftext.proofs.Backslashes.{front_at, front_shown, front_blank}
 use Rattle.act1_bliftext.proofs.words.before_backslash.Goals as goal
 

@@ -1,4 +1,4 @@
-use Rattle.std.proofs.Common.{ℕ, List, length, ◌≡◌, ◌≤◌, Some, subst, sym}
+use Rattle.std.proofs.Common.{ℕ, List, length, ◌≡◌, ◌≤◌, Some, subst}
 use Rattle.std.specs.Prelude.{slice_get}
 use Rattle.act1_bliftext.specs.Tables.{with_name}
 use Rattle.act1_bliftext.proofs.Numbering.{name_found}

@@ -1,4 +1,3 @@
-use Rattle.std.proofs.Common.{ℕ, List, ◌≡◌, ◌∙◌, sym, ap, arith}
 use Rattle.std.proofs.lemmas.Result.{err_from_is_err_and}
 use Rattle.act1_bliftext.proofs.Numbering.{names_turn, numbers_turn, numbers_err, numbers_end}
 use Rattle.act1_bliftext.proofs.names.Names.numbers.Goals as goal
