@@ -1,7 +1,7 @@
 -- The netlist of whole statements keeps the rules for netlists.
-use Rattle.std.proofs.Common.{ℕ, suc, zero, ◌≡◌, ◌≢◌, ◌<◌, ◌≤◌, ◌⊎◌, ◌+◌, ◌&&◌, ◌||◌, ◌==◌, not, Bool, true, false, List, [], ◌∷◌, ◌++◌, length, map, get_or, Option, Some, None, codes, refl, sym, ap, subst, ◌∙◌, inl, inr, arith}
-use Rattle.std.specs.Prelude.{option_map, slice_get, slice_index_or, unwrap_or, nat_lt, nat_le}
-use Rattle.std.specs.List.{cons_option, filter_map, list_all, list_any, position}
+use Rattle.std.proofs.Common.{ℕ, suc, zero, ◌≡◌, ◌<◌, ◌≤◌, ◌+◌, ◌&&◌, ◌||◌, ◌==◌, not, Bool, true, false, List, [], ◌∷◌, ◌++◌, length, map, Option, Some, None, codes, refl, sym, ap, subst, ◌∙◌, arith}
+use Rattle.std.specs.Prelude.{option_map, slice_get, unwrap_or, nat_lt, nat_le}
+use Rattle.std.specs.List.{cons_option, list_all, list_any}
 use Rattle.std.specs.Str.{bytes_eq}
 use Rattle.std.proofs.lemmas.Bool.{and_from, and_parts, false≢true, le-leb}
 use Rattle.std.proofs.lemmas.Bool.Decides.{nat_tests}
@@ -11,7 +11,7 @@ use Rattle.act1_base.specs.Names.{is_name, are_different, are_different_numbers}
 use Rattle.act1_blif.specs.declared.blif.Latch.{Latch}
 use Rattle.act1_blif.specs.declared.blif.Node.{Node}
 use Rattle.act1_blif.specs.Rules.{are_names, is_blif, is_latch, is_node, names_of, with_clock}
-use Rattle.act1_bliftext.specs.Rules.{are_below, is_control, is_model, is_statement}
+use Rattle.act1_bliftext.specs.Rules.{are_below, is_control, is_model}
 use Rattle.act1_bliftext.specs.declared.statement.NumberedStatement.{NumberedStatement}
 use Rattle.act1_bliftext.specs.declared.statement.Statement.{Statement}
 use Rattle.act1_bliftext.specs.declared.statement.Statement.TheVariants as said
@@ -19,7 +19,6 @@ use Rattle.act1_bliftext.specs.declared.statements.Statements.{Statements}
 use Rattle.act1_blifread.specs.Parts.{all_of, clock_names, clock_of, data_inputs, input_names, is_clock, latch_names, node_names, output_names, signals_of}
 use Rattle.act1_blifread.specs.Faults.{IsWhole, is_among, is_clock_used}
 use Rattle.act1_blifread.specs.Netlist.{latch_of, latches_of, name_at, node_of, nodes_of, signal_at}
-use Rattle.act1_blifread.specs.Steps.{are_within}
 use Rattle.act1_blifread.proofs.FirstLines.{none_passes}
 use Rattle.act1_blifread.proofs.NodeGraphs.{all_below, below_true, names_parts}
 use Rattle.act1_blifread.proofs.NumberLists.{equal_true, equal_turned, is_among_more}

@@ -22,7 +22,6 @@ use Rattle.act1_bliftext.specs.declared.fault.BlifKind.{BlifKind}
 use Rattle.act1_bliftext.specs.declared.fault.BlifKind.TheVariants as kind
 use Rattle.act1_bliftext.specs.declared.form.Form.TheVariants as form
 use Rattle.act1_bliftext.specs.declared.statement.NumberedStatement.{NumberedStatement}
-use Rattle.act1_bliftext.specs.declared.statement.Statement.{Statement}
 use Rattle.act1_bliftext.specs.declared.statement.Statement.TheVariants as said
 use Rattle.act1_bliftext.proofs.Blocks.{block_with, said_push}
 use Rattle.act1_bliftext.proofs.FaultParts.{if_so, of_no_row, of_row}

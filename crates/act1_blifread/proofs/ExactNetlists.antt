@@ -1,6 +1,6 @@
 -- Statements have one netlist or one fault of the whole.
-use Rattle.std.proofs.Common.{ℕ, suc, zero, ◌≡◌, ◌≢◌, ◌<◌, ◌≤◌, ◌⊎◌, ◌+◌, Bool, true, false, List, [], ◌∷◌, length, map, take, get_or, Option, Some, None, codes, refl, sym, ap, subst, ◌∙◌, inl, inr, arith}
-use Rattle.std.specs.Prelude.{All, option_map, slice_get, unwrap_or, IsTrue, IsSomeAnd}
+use Rattle.std.proofs.Common.{ℕ, suc, zero, ◌≡◌, ◌<◌, ◌≤◌, ◌⊎◌, ◌+◌, Bool, true, false, List, [], ◌∷◌, length, map, take, Some, codes, refl, sym, ap, subst, ◌∙◌, inl, inr, arith}
+use Rattle.std.specs.Prelude.{All, option_map, slice_get, unwrap_or, IsTrue}
 use Rattle.std.proofs.lemmas.Bool.{cases_eq, false≢true}
 use Rattle.std.proofs.lemmas.List.Elements.{All-get_or}
 use Rattle.std.proofs.lemmas.Option.{get_or_from_slice_get, slice_get_within}
@@ -16,7 +16,7 @@ use Rattle.act1_bliftext.specs.declared.statements.Statements.{Statements}
 use Rattle.act1_order.specs.Order.{OnRing}
 use Rattle.act1_blifread.specs.Parts.{all_of, clock_of, data_inputs, node_names, output_names, signals_of}
 use Rattle.act1_blifread.specs.Faults.{HasFault, IsFirstAt, IsFree, IsWhole, Passes, WholeBad, is_clock_used, is_node, is_second_clock, is_twice, is_undriven, node_graph, whole_kinds}
-use Rattle.act1_blifread.specs.Netlist.{IsNetlistOf, latches_of, name_at, nodes_of, signal_at}
+use Rattle.act1_blifread.specs.Netlist.{latches_of, name_at, nodes_of, signal_at}
 use Rattle.act1_blifread.specs.Exact.{HasNetlist, HasWholeFault, NetlistIsOne, NetlistOrFault, NetlistWithoutFault, WholeFaultIsOne}
 use Rattle.act1_blifread.proofs.BuiltNetlists.{built_valid}
 use Rattle.act1_blifread.proofs.FirstLines.{twice_is_bad, clocks_are_bad, undriven_is_bad, clock_used_is_bad, loop_is_bad, is_whole}

@@ -1,8 +1,8 @@
 -- The graph of the `.names` of some statements, and its first ring.
-use Rattle.std.proofs.Common.{ℕ, suc, zero, ◌≡◌, ◌≢◌, ◌<◌, ◌≤◌, ◌⊎◌, ◌+◌, ◌&&◌, ◌==◌, Bool, true, false, List, [], ◌∷◌, ◌++◌, length, take, drop, get_or, Option, Some, None, refl, sym, ap, subst, ◌∙◌, inl, inr, arith}
-use Rattle.std.specs.Prelude.{slice_get, slice_index_or, Contains, option_map, nat_lt, IsSomeAnd}
-use Rattle.std.specs.List.{cons_option, filter_map, list_all, position}
-use Rattle.std.proofs.lemmas.Bool.{cases_eq, false≢true}
+use Rattle.std.proofs.Common.{ℕ, suc, zero, ◌≡◌, ◌<◌, ◌≤◌, ◌&&◌, ◌==◌, Bool, true, false, List, [], ◌∷◌, ◌++◌, length, take, get_or, Option, Some, None, refl, sym, ap, subst, ◌∙◌, arith}
+use Rattle.std.specs.Prelude.{slice_get, Contains, option_map, nat_lt}
+use Rattle.std.specs.List.{cons_option, filter_map, position}
+use Rattle.std.proofs.lemmas.Bool.{false≢true}
 use Rattle.std.proofs.lemmas.Bool.Decides.{nat_tests}
 use Rattle.std.proofs.lemmas.List.{length-append}
 use Rattle.std.proofs.lemmas.List.Folds.{list_all-append}
@@ -13,9 +13,9 @@ use Rattle.act1_bliftext.specs.declared.statement.Statement.{Statement}
 use Rattle.act1_bliftext.specs.declared.statement.Statement.TheVariants.{Inputs, Outputs, Clock, Names, Latch}
 use Rattle.act1_order.specs.Order.{AreReads, IsFirstOnRing, LeadsTo, OnRing, Reads}
 use Rattle.act1_blifread.specs.Parts.{all_of, node_names}
-use Rattle.act1_blifread.specs.Faults.{HasFault, IsFirstAt, IsFree, Passes, is_node, node_graph, node_reads}
-use Rattle.act1_blifread.specs.Steps.{are_within, ArePlaces, IsFirstLine, IsNodeAt, IsNodeLine, place_at, reads_in}
-use Rattle.act1_blifread.proofs.FirstPlaces.{first, first_there, position_first}
+use Rattle.act1_blifread.specs.Faults.{IsFree, Passes, is_node, node_graph, node_reads}
+use Rattle.act1_blifread.specs.Steps.{are_within, ArePlaces, IsFirstLine, IsNodeLine, place_at, reads_in}
+use Rattle.act1_blifread.proofs.FirstPlaces.{first_there, position_first}
 use Rattle.act1_blifread.proofs.NumberLists.{both_true}
 
 -- the names of one sort are within the count, where those of each statement are

@@ -1,12 +1,12 @@
 -- Numbers that differ are few, and a graph that has an order has no ring.
-use Rattle.std.proofs.Common.{ℕ, suc, zero, ◌≡◌, ◌≢◌, ◌<◌, ◌≤◌, ◌⊎◌, ◌+◌, ◌&&◌, ◌||◌, ◌==◌, not, Bool, true, false, List, [], ◌∷◌, ◌++◌, length, get_or, Option, Some, None, refl, sym, ap, subst, ◌∙◌, inl, inr, arith}
+use Rattle.std.proofs.Common.{ℕ, suc, zero, ◌≡◌, ◌<◌, ◌≤◌, ◌&&◌, ◌||◌, ◌==◌, not, Bool, true, false, List, [], ◌∷◌, length, Some, refl, sym, ap, ◌∙◌, arith}
 use Rattle.std.specs.Prelude.{slice_get, nat_lt, Contains}
 use Rattle.std.specs.List.{list_all, list_any, AllByRecursion, IsDistinct}
-use Rattle.std.proofs.lemmas.Bool.{cases_eq, false≢true}
+use Rattle.std.proofs.lemmas.Bool.{false≢true}
 use Rattle.std.proofs.lemmas.Bool.Decides.{nat_tests}
 use Rattle.std.proofs.lemmas.Map.Steps.{length-le_from_distinct_below}
 use Rattle.act1_base.specs.Names.{are_different_numbers}
-use Rattle.act1_order.specs.Order.{AreReads, IsOrder, LeadsTo, OnRing, Reads, StandsBefore}
+use Rattle.act1_order.specs.Order.{IsOrder, LeadsTo, OnRing, StandsBefore}
 use Rattle.act1_blifread.specs.Faults.{is_among}
 use Rattle.act1_blifread.proofs.NumberLists.{both_true, equal_turned, true_equal}
 use Rattle.act1_blifread.proofs.NodeGraphs.{ring_within}

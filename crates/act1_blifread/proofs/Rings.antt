@@ -1,10 +1,8 @@
 -- Rings of a finite graph: whether a vertex is on one, and levels where none is.
-use Rattle.std.proofs.Common.{ℕ, suc, zero, ◌≡◌, ◌≢◌, ◌<◌, ◌≤◌, ◌⊎◌, ◌+◌, ◌&&◌, ◌||◌, ◌==◌, not, Bool, true, false, cond, List, [], ◌∷◌, ◌++◌, length, map, get_or, Option, Some, None, refl, sym, ap, subst, ◌∙◌, inl, inr, arith}
-use Rattle.std.specs.Prelude.{slice_get, slice_index_or, Contains, count_by}
-use Rattle.std.specs.List.{list_any}
+use Rattle.std.proofs.Common.{ℕ, suc, zero, ◌≡◌, ◌<◌, ◌≤◌, ◌⊎◌, ◌+◌, ◌&&◌, ◌||◌, ◌==◌, Bool, true, false, cond, List, [], ◌∷◌, ◌++◌, length, get_or, refl, sym, ap, subst, ◌∙◌, inl, inr, arith}
+use Rattle.std.specs.Prelude.{Contains}
 use Rattle.std.proofs.lemmas.Bool.{cases_eq, false≢true}
-use Rattle.std.proofs.lemmas.List.{append_assoc}
-use Rattle.act1_order.specs.Order.{AreReads, IsOrder, LeadsTo, OnRing, Reads, StandsBefore}
+use Rattle.act1_order.specs.Order.{AreReads, LeadsTo, OnRing, Reads}
 use Rattle.act1_blifread.specs.Faults.{is_among}
 use Rattle.act1_blifread.proofs.NumberLists.{equal_true, true_equal}
 

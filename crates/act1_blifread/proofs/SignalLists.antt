@@ -1,7 +1,7 @@
 -- The signals of statements: how often each stands among them, and which names are signals.
-use Rattle.std.proofs.Common.{ℕ, suc, zero, ◌≡◌, ◌≢◌, ◌<◌, ◌≤◌, ◌⊎◌, ◌+◌, ◌&&◌, ◌||◌, ◌==◌, not, Bool, true, false, cond, List, [], ◌∷◌, ◌++◌, length, take, Option, Some, None, refl, sym, ap, subst, ◌∙◌, inl, inr, arith}
-use Rattle.std.specs.Prelude.{filter, is_some, nat_lt, slice_get, IsTrue}
-use Rattle.std.specs.List.{list_all, list_any, position, AllByRecursion}
+use Rattle.std.proofs.Common.{ℕ, suc, zero, ◌≡◌, ◌<◌, ◌≤◌, ◌⊎◌, ◌+◌, ◌&&◌, ◌||◌, ◌==◌, not, Bool, true, false, cond, List, [], ◌∷◌, ◌++◌, length, take, Option, Some, None, refl, sym, ap, subst, ◌∙◌, arith}
+use Rattle.std.specs.Prelude.{filter, is_some, nat_lt}
+use Rattle.std.specs.List.{list_any, AllByRecursion}
 use Rattle.std.proofs.lemmas.Bool.{cases_eq, false≢true}
 use Rattle.std.proofs.lemmas.List.Folds.{list_any-append, list_all-append}
 use Rattle.act1_base.specs.Names.{are_different_numbers}
@@ -16,7 +16,7 @@ use Rattle.act1_blifread.specs.Steps.{are_within, ArePlaces, is_without_place}
 use Rattle.act1_blifread.proofs.FirstPlaces.{first_among, position_first}
 use Rattle.act1_blifread.proofs.NodeGraphs.{all_below, below_true, names_parts, node_below, one_below}
 use Rattle.act1_blifread.proofs.NumberLists.{both_true, equal_true, true_equal}
-use Rattle.act1_blifread.proofs.Orders.{few_below, first_apart, not_true, others_apart, with_first}
+use Rattle.act1_blifread.proofs.Orders.{few_below, first_apart, others_apart, with_first}
 
 -- how often a number stands in a list
 abbrev pub times : ℕ → List ℕ → ℕ

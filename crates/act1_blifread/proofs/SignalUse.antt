@@ -1,17 +1,17 @@
 -- In whole statements each name that is used is a signal.
-use Rattle.std.proofs.Common.{ℕ, suc, zero, ◌≡◌, ◌≢◌, ◌<◌, ◌≤◌, ◌⊎◌, ◌+◌, ◌&&◌, ◌||◌, ◌==◌, not, Bool, true, false, cond, List, [], ◌∷◌, ◌++◌, length, map, get_or, Option, Some, None, refl, sym, ap, subst, ◌∙◌, inl, inr, arith}
-use Rattle.std.specs.Prelude.{is_some, option_map, slice_get, unwrap_or, nat_lt}
-use Rattle.std.specs.List.{list_all, list_any, position, AllByRecursion}
-use Rattle.std.proofs.lemmas.Bool.{and_from, and_parts, false≢true, true≢false, not-true, true_from_ne_false}
+use Rattle.std.proofs.Common.{ℕ, ◌≡◌, ◌<◌, ◌||◌, ◌==◌, not, Bool, true, false, List, [], ◌∷◌, length, map, Option, Some, None, refl, sym, ap, ◌∙◌, arith}
+use Rattle.std.specs.Prelude.{is_some, slice_get, unwrap_or, nat_lt}
+use Rattle.std.specs.List.{list_all, list_any, AllByRecursion}
+use Rattle.std.proofs.lemmas.Bool.{and_from, and_parts, false≢true}
 use Rattle.std.proofs.lemmas.Bool.Decides.{nat_tests}
 use Rattle.std.proofs.lemmas.List.Elements.{recursion_from_All}
 use Rattle.act1_base.specs.Names.{are_different_numbers}
-use Rattle.act1_bliftext.specs.Rules.{are_below, is_statement}
+use Rattle.act1_bliftext.specs.Rules.{is_statement}
 use Rattle.act1_bliftext.specs.declared.fault.BlifKind.TheVariants.{Twice, Clocks, Undriven, ClockUsed, Loop}
 use Rattle.act1_bliftext.specs.declared.statement.NumberedStatement.{NumberedStatement}
 use Rattle.act1_bliftext.specs.declared.statement.Statement.{Statement}
 use Rattle.act1_bliftext.specs.declared.statement.Statement.TheVariants.{Inputs, Outputs, Clock, Names, Latch}
-use Rattle.act1_blifread.specs.Parts.{all_of, clock_of, data_inputs, data_names, given_names, is_clock, latch_names, node_names, output_names, signals_of, used_names}
+use Rattle.act1_blifread.specs.Parts.{all_of, clock_of, given_names, is_clock, signals_of, used_names}
 use Rattle.act1_blifread.specs.Faults.{IsFree, IsWhole, is_among, is_clock_used, is_undriven, whole_kinds}
 use Rattle.act1_blifread.specs.Netlist.{signal_at}
 use Rattle.act1_blifread.specs.Steps.{are_within}

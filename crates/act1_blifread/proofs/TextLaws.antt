@@ -1,10 +1,9 @@
 -- BLIF texts have one netlist or one fault.
-use Rattle.std.proofs.Common.{ℕ, ◌≡◌, ◌≢◌, ◌≤◌, ◌⊎◌, List, length, ap, subst, inl, inr}
+use Rattle.std.proofs.Common.{ℕ, ◌≢◌, ◌⊎◌, List, ap, subst, inl, inr}
 use Rattle.std.specs.Prelude.{IfErr, IfOk, Result, Ok, Err}
 use Rattle.act1_bliftext.specs.Faults.{LineBad}
 use Rattle.act1_bliftext.specs.Statements.{StatementsOf}
 use Rattle.act1_bliftext.specs.declared.fault.BlifFault.{BlifFault}
-use Rattle.act1_bliftext.specs.declared.fault.BlifKind.{BlifKind}
 use Rattle.act1_bliftext.specs.declared.fault.BlifKind.TheVariants.{Memory}
 use Rattle.act1_bliftext.specs.declared.statements.Statements.{Statements}
 use Rattle.act1_bliftext.proofs.EachText as text
@@ -12,7 +11,7 @@ use Rattle.act1_bliftext.proofs.OneReadings as reading
 use Rattle.act1_blif.specs.declared.blif.Blif.{Blif}
 use Rattle.act1_blifread.specs.Faults.{WholeBad}
 use Rattle.act1_blifread.specs.Netlist.{Answers, IsNetlistOf}
-use Rattle.act1_blifread.specs.Text.{BlifBad, BlifText, WholeTextBad}
+use Rattle.act1_blifread.specs.Text.{BlifBad, BlifText}
 use Rattle.act1_blifread.specs.Exact.{HasNetlist, HasWholeFault}
 use Rattle.act1_blifread.specs.ExactTexts.{HasTextFault, HasTextNetlist, TextFaultIsOne, TextNetlistIsOne, TextNetlistOrFault, TextNetlistWithoutFault}
 use Rattle.act1_blifread.proofs.ExactNetlists as whole

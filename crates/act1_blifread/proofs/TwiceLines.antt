@@ -1,5 +1,5 @@
 -- The first statement that gives a name again.
-use Rattle.std.proofs.Common.{ℕ, suc, zero, ◌≡◌, ◌<◌, ◌≤◌, ◌⊎◌, ◌+◌, ◌&&◌, not, Bool, true, false, List, [], ◌∷◌, ◌++◌, length, take, drop, get_or, Option, Some, None, refl, sym, ap, subst, ◌∙◌, inl, inr, arith}
+use Rattle.std.proofs.Common.{ℕ, ◌≡◌, ◌<◌, ◌≤◌, ◌⊎◌, ◌+◌, ◌&&◌, not, Bool, true, false, List, ◌++◌, length, take, get_or, Some, refl, sym, ap, subst, ◌∙◌, inl, inr, arith}
 use Rattle.std.specs.Prelude.{slice_get, option_map, IsTrue}
 use Rattle.std.proofs.lemmas.Bool.{cases_eq, false≢true}
 use Rattle.std.proofs.lemmas.Option.{slice_get_read}
@@ -9,7 +9,6 @@ use Rattle.act1_bliftext.specs.declared.statement.NumberedStatement.{NumberedSta
 use Rattle.act1_blifread.specs.Parts.{all_of, given_names, output_names}
 use Rattle.act1_blifread.specs.Faults.{is_twice, IsFree, IsFirstAt}
 use Rattle.act1_blifread.specs.Steps.{AreMarks}
-use Rattle.act1_blifread.proofs.NumberLists.{true_both}
 use Rattle.act1_blifread.proofs.StatementLists.{all_of_more}
 
 -- the line of a statement that is read at a place

@@ -1,12 +1,10 @@
 -- BLIF texts of the constant form: each output is a constant. They are a small part of Berkeley's BLIF.
-use Rattle.std.specs.Prelude.{ℕ, zero, suc, ◌≡◌, ◌≤◌, Bool, true, ◌&&◌, ◌||◌, nat_le, IsTrue, List, [], ◌∷◌, ◌++◌, length, map, None, Result, Ok, Err, codes, if◌then◌else◌}
+use Rattle.std.specs.Prelude.{ℕ, zero, suc, ◌≡◌, ◌≤◌, Bool, true, ◌&&◌, ◌||◌, nat_le, IsTrue, List, [], ◌∷◌, ◌++◌, length, map, None, codes, if◌then◌else◌}
 use Rattle.std.specs.List.{list_all, flat_map}
 use Rattle.act1_base.specs.Names.{are_different}
 use Rattle.act1_base.specs.Words.{text_of_lines}
 use Rattle.act1_blif.specs.declared.blif.Blif.{Blif}
 use Rattle.act1_blif.specs.declared.blif.Node.{Node}
-use Rattle.act1_blifread.specs.declared.fault.ConstantFault.{ConstantFault}
-use Rattle.act1_blifread.specs.declared.fault.ConstantFault.TheVariants.{NotBuilt, Memory}
 
 -- an output that is a constant
 pub record Constant : Type 0 where
@@ -76,25 +74,3 @@ pub record IsTextOf (constants : List Constant) (bytes : List ℕ) (net : Blif) 
 pub record ConstantText (bytes : List ℕ) (net : Blif) : Type 0 where
   pub constants : List Constant
   pub is : IsTextOf constants bytes net
-
--- the bytes are no text of the constant form
-abbrev pub IsNoConstantText : List ℕ → Type 0
-IsNoConstantText bytes = (constants : List Constant) → AreConstants constants → bytes ≡ constant_text constants → ⊥
-
--- what a reader of the constant form answers
-abbrev pub ReadsConstants : List ℕ → Result Blif ConstantFault → Type 0
-ReadsConstants bytes (Ok net) = ConstantText bytes net
-ReadsConstants bytes (Err NotBuilt) = IsNoConstantText bytes
-ReadsConstants bytes (Err Memory) = Unit {0}
-
--- no text is of the form and not of it
-abbrev pub NeverBoth : Type 0
-NeverBoth = (bytes : List ℕ) (net : Blif) → ConstantText bytes net → IsNoConstantText bytes → ⊥
-
--- a text is of one list of constants
-abbrev pub OneList : Type 0
-OneList = (constants others : List Constant) → AreConstants constants → AreConstants others → constant_text constants ≡ constant_text others → constants ≡ others
-
--- a text has one netlist
-abbrev pub OneNetlist : Type 0
-OneNetlist = (bytes : List ℕ) (net other : Blif) → ConstantText bytes net → ConstantText bytes other → net ≡ other

@@ -1,5 +1,5 @@
 -- The faults of a whole text, over its statements. The kinds and their order are this project's.
-use Rattle.std.specs.Prelude.{ℕ, ◌≡◌, ◌+◌, ◌<◌, ◌&&◌, ◌||◌, ◌==◌, Bool, true, false, not, IsTrue, List, [], ◌∷◌, length, map, take, Option, Some, None, All, IsSomeAnd, slice_get, option_map}
+use Rattle.std.specs.Prelude.{ℕ, ◌≡◌, ◌+◌, ◌<◌, ◌&&◌, ◌||◌, ◌==◌, Bool, true, false, not, IsTrue, List, [], ◌∷◌, length, take, Option, Some, None, All, IsSomeAnd, slice_get, option_map}
 use Rattle.std.specs.List.{filter_map, list_any, position}
 use Rattle.act1_base.specs.Names.{are_different_numbers}
 use Rattle.act1_bliftext.specs.declared.fault.BlifKind.{BlifKind}

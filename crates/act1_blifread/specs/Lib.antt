@@ -1,9 +1,9 @@
+pub mod CanonicalLaw
 pub mod ConstantLaw
 pub mod Constants
 pub mod Exact
 pub mod ExactTexts
 pub mod Faults
-pub mod Lines
 pub mod Netlist
 pub mod Parts
 pub mod Steps

@@ -12,7 +12,7 @@ use Rattle.act1_blif.specs.declared.blif.Blif.{Blif}
 use Rattle.act1_blif.specs.declared.blif.Latch.{Latch}
 use Rattle.act1_blif.specs.declared.blif.Node.{Node}
 use Rattle.act1_blifread.specs.Parts.{all_of, clock_of, data_inputs, output_names, signals_of}
-use Rattle.act1_blifread.specs.Faults.{IsWhole, WholeBad}
+use Rattle.act1_blifread.specs.Faults.{IsWhole}
 
 -- the name of a number
 abbrev pub name_at : List (List ℕ) → ℕ → List ℕ

@@ -1,5 +1,5 @@
 -- What the steps from statements to a netlist keep.
-use Rattle.std.specs.Prelude.{ℕ, ◌≡◌, ◌≤◌, ◌<◌, ◌==◌, ◌&&◌, ⊤, Result, Ok, Err, Bool, true, false, not, is_some, IsTrue, List, [], length, map, take, Option, Some, None, find, slice_get, slice_index_or, option_map, unwrap_or}
+use Rattle.std.specs.Prelude.{ℕ, ◌≡◌, ◌≤◌, ◌<◌, ◌==◌, ◌&&◌, ⊤, Result, Ok, Err, Bool, true, false, not, is_some, List, length, map, take, Option, Some, None, find, slice_get, slice_index_or, option_map, unwrap_or}
 use Rattle.std.specs.List.{filter_map, list_all, position}
 use Rattle.act1_base.specs.Names.{are_different_numbers}
 use Rattle.act1_base.specs.declared.texts.Stop.{Stop}

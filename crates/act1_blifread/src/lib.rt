@@ -1,21 +1,15 @@
-//! Readers of BLIF: of whole BLIF, and of the constant form, netlists whose outputs are constants, which
-//! was read first.
+//! The reader of BLIF: the statements of a text, as `act1_bliftext` reads them, to its netlist or its first
+//! fault.
 #![tactic(auto)]
 
-mod build;
+mod canonical_law;
 mod clocks;
 mod constant_law;
 mod exact;
-mod fault;
 mod graph;
-mod law;
 mod marks;
-mod names;
 mod netlist;
-mod output;
-mod pieces;
 mod places;
-mod read;
 mod signals;
 #[cfg(test)]
 mod tests;
@@ -24,10 +18,8 @@ mod twice;
 mod whole;
 
 pub use act1_bliftext::{BlifFault, BlifKind};
+pub use canonical_law::canonical_text_is_read_back;
 pub use constant_law::constant_texts_are_blif;
 pub use exact::{blif_texts_are_exact, netlists_are_exact};
-pub use fault::ConstantFault;
-pub use law::constant_texts_are_exact;
-pub use read::read_constants;
 pub use text::read_blif;
 pub use whole::netlist_of;

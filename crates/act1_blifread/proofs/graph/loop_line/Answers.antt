@@ -1,4 +1,4 @@
-use Rattle.std.proofs.Common.{ℕ, ◌≡◌, ◌≤◌, List, [], ◌++◌, length, true, sym, ap, subst, ◌∙◌, arith}
+use Rattle.std.proofs.Common.{ℕ, ◌≡◌, ◌≤◌, List, length, sym, subst, ◌∙◌, arith}
 use Rattle.act1_order.specs.Order.{AreReads, IsFirstOnRing, IsOrder}
 use Rattle.act1_blifread.specs.Faults.{node_graph}
 use Rattle.act1_blifread.proofs.NodeGraphs.{length_graph, graph_inside, ring_is_first, no_loop}

@@ -1,10 +1,8 @@
-use Rattle.std.proofs.Common.{ℕ, ◌≡◌, ◌<◌, List, Option, Some, not, length, map, true, sym, ap, subst, ◌∙◌}
-use Rattle.std.specs.Prelude.{filter, option_map}
+use Rattle.std.proofs.Common.{ℕ, ◌≡◌, ◌<◌, List, Option, not, length, true, sym, ap, subst, ◌∙◌}
+use Rattle.std.specs.Prelude.{filter}
 use Rattle.act1_bliftext.specs.Rules.{are_below}
 use Rattle.act1_bliftext.specs.declared.statement.NumberedStatement.{NumberedStatement}
-use Rattle.act1_blifread.specs.Parts.{all_of, clock_of, data_inputs, input_names, is_clock, output_names}
-use Rattle.act1_blifread.specs.Netlist.{name_at}
-use Rattle.act1_blifread.specs.Steps.{latches_at, nodes_at, number_at}
+use Rattle.act1_blifread.specs.Parts.{all_of, data_inputs, input_names, is_clock}
 use Rattle.act1_blifread.proofs.BuiltNetlists.{clock_low}
 use Rattle.act1_blifread.proofs.NetlistParts.{AreParts, are_built, parts_fit, parts_levels}
 use Rattle.act1_blifread.proofs.SignalLists.{data_below}

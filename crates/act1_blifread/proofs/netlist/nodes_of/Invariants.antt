@@ -1,4 +1,4 @@
-use Rattle.std.proofs.Common.{◌≡◌, ◌++◌}
+use Rattle.std.proofs.Common.{◌≡◌}
 use Rattle.act1_blifread.specs.Steps.{nodes_at}
 use Rattle.act1_blifread.proofs.netlist.nodes_of.Given as goal
 

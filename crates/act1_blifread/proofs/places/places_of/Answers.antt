@@ -1,4 +1,3 @@
-use Rattle.std.proofs.Common.{ℕ, ◌≡◌, ◌<◌, get_or}
 use Rattle.act1_blifread.proofs.FirstPlaces.{places_read}
 use Rattle.act1_blifread.proofs.NumberLists.{below_at}
 use Rattle.act1_blifread.proofs.places.places_of.Goals as goal
