@@ -4,6 +4,7 @@ pub mod Fields
 pub mod FileText
 pub mod Forms
 pub mod FuseTexts
+pub mod GivenNames
 pub mod LineForms
 pub mod Middles
 pub mod Pushes

@@ -9,7 +9,8 @@ use Rattle.std.proofs.lemmas.Slice.Eq.{bytes_eq-Decides}
 use Rattle.std.proofs.lemmas.Bool.Decides.{nat_tests}
 use Rattle.act1_base.specs.Rising.{Rises, is_before}
 use Rattle.act1_fuses.specs.declared.fuses.Port.{Port}
-use Rattle.act1_fuses.specs.Reading.{is_among, is_clock, uses_pad}
+use Rattle.act1_fuses.specs.Given.{is_among, is_clock}
+use Rattle.act1_fuses.specs.Reading.{uses_pad}
 use Rattle.act1_fuses.specs.Rules.{IsApart}
 use Rattle.act1_fuses.proofs.Pushes.{false_any, last_of}
 

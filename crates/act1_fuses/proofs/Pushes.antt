@@ -9,7 +9,8 @@ use Rattle.std.proofs.lemmas.Slice.Eq.{bytes_eq-Decides}
 use Rattle.std.proofs.lemmas.Bool.Decides.{Decides-eqb}
 use Rattle.act1_base.specs.Rising.{Rises, is_before}
 use Rattle.act1_fuses.specs.declared.fuses.Port.{Port}
-use Rattle.act1_fuses.specs.Reading.{is_among, is_clock, uses_pad}
+use Rattle.act1_fuses.specs.Given.{is_among, is_clock}
+use Rattle.act1_fuses.specs.Reading.{uses_pad}
 use Rattle.act1_fuses.specs.Rules.{IsApart}
 
 pub all_push : {X : Type 0} (P : X → Type 0) (xs : List X) (x : X) → All P xs → P x → All P (xs ++ x ∷ [])

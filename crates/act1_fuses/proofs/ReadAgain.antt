@@ -19,7 +19,8 @@ use Rattle.act1_fuses.specs.declared.fuses.Port.{Port}
 use Rattle.act1_fuses.specs.declared.fuses.StartAt.{StartAt}
 use Rattle.act1_fuses.proofs.Fields.{FitsFields}
 use Rattle.act1_fuses.specs.Forms.{form_of}
-use Rattle.act1_fuses.specs.Reading.{may_follow, is_free_pad, uses_pad, is_clock, is_among, first_failing, fault_of, state_with, unless, step_of_words, has_ended, fuse_rules}
+use Rattle.act1_fuses.specs.Given.{is_among, is_clock}
+use Rattle.act1_fuses.specs.Reading.{may_follow, is_free_pad, uses_pad, first_failing, fault_of, state_with, unless, step_of_words, has_ended, fuse_rules}
 use Rattle.act1_fuses.specs.Rules.{port_names, start_names, KeepsRules}
 use Rattle.act1_fuses.specs.Text.{port_words}
 use Rattle.act1_fuses.proofs.Blanks.{port_without}

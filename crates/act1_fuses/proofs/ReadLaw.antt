@@ -14,8 +14,9 @@ use Rattle.act1_fuses.specs.declared.form.FuseLine.{FuseLine}
 use Rattle.act1_fuses.specs.declared.form.FuseLine.TheVariants as form
 use Rattle.act1_fuses.specs.declared.form.FuseState.{FuseState}
 use Rattle.act1_fuses.specs.Forms.{form_of}
-use Rattle.act1_fuses.specs.Reading.{may_follow, comes_after, is_free_pad, is_clock, is_among, is_taken, rules_of, fault_of, step_of_words, has_ended, first_state, fuse_rules, fuse_reading}
-use Rattle.act1_fuses.specs.Rules.{port_names, KeepsRules}
+use Rattle.act1_fuses.specs.Given.{is_among, is_clock}
+use Rattle.act1_fuses.specs.Reading.{may_follow, comes_after, is_free_pad, rules_of, fault_of, step_of_words, has_ended, first_state, fuse_rules, fuse_reading}
+use Rattle.act1_fuses.specs.Rules.{port_names, start_names, KeepsRules}
 use Rattle.act1_fuses.specs.SiteTest.{is_site}
 use Rattle.act1_fuses.specs.Text.{file_lines, fuse_text}
 use Rattle.act1_fuses.proofs.LineForms.{Reads, words_said, words_are}
@@ -80,7 +81,7 @@ module _ (dev : Device) (s : FuseState) (good : IsGood dev s) where
   line_kept (form.Start row column init name) words reads h =
       let p = passed (may_follow s.place 6) kind.Order (rules_of dev s (form.Start row column init name)) h in
       let on = nat_lt row dev.rows && nat_lt column dev.columns in
-      let free = not (is_taken s.file name) in
+      let free = not (is_clock s.file.clock name || is_among name (port_names s.file.ins) || is_among name (start_names s.file.starts)) in
       let q = passed (comes_after s 6 (row ∷ column ∷ [])) kind.Order ((on, kind.Site) ∷ (free, kind.Name) ∷ []) p.1 in
       let r = passed on kind.Site ((free, kind.Name) ∷ []) q.1 in
       let t = passed free kind.Name [] r.1 in

@@ -10,7 +10,8 @@ use Rattle.act1_fuses.specs.declared.form.FuseState.{FuseState}
 use Rattle.act1_fuses.specs.declared.fuses.FuseFile.{FuseFile}
 use Rattle.act1_fuses.specs.declared.fuses.Port.{Port}
 use Rattle.act1_fuses.specs.declared.fuses.StartAt.{StartAt}
-use Rattle.act1_fuses.specs.Reading.{may_follow, is_free_pad, uses_pad, is_clock, is_among}
+use Rattle.act1_fuses.specs.Given.{is_among, is_clock}
+use Rattle.act1_fuses.specs.Reading.{may_follow, is_free_pad, uses_pad}
 use Rattle.act1_fuses.specs.Rules.{port_names, start_names, IsApart}
 use Rattle.act1_fuses.specs.Text.{clock_lines, port_words, start_words, site_words}
 use Rattle.act1_fuses.proofs.Pushes.{all_push, any_append, names_push, pads_push, apart_push, first_of_two, first_of_three, second_of_three}

@@ -16,7 +16,8 @@ use Rattle.act1_circuit.specs.Spots.{SpotIsBefore}
 use Rattle.act1_fuses.specs.declared.form.FuseLine.TheVariants as form
 use Rattle.act1_fuses.specs.declared.form.FuseState.{FuseState}
 use Rattle.act1_fuses.specs.declared.fuses.StartAt.{StartAt}
-use Rattle.act1_fuses.specs.Reading.{may_follow, comes_after, is_clock, is_among, is_taken}
+use Rattle.act1_fuses.specs.Given.{is_among, is_clock}
+use Rattle.act1_fuses.specs.Reading.{may_follow, comes_after}
 use Rattle.act1_fuses.specs.Rules.{port_names, start_names, IsApart, IsStart}
 use Rattle.act1_fuses.specs.Text.{port_words, start_words, site_words}
 use Rattle.act1_fuses.proofs.Pushes.{all_push, any_append, names_push, apart_push, last_of, last_push, rises_push}
@@ -46,7 +47,7 @@ module _ (dev : Device) (s : FuseState) (good : IsGood dev s) where
     abbrev new : StartAt
     new = start_of row column init name
 
-    pub next_start : IsTrue (may_follow s.place 6) → IsTrue (comes_after s 6 (row ∷ column ∷ [])) → IsTrue (nat_lt row dev.rows && nat_lt column dev.columns) → IsTrue (not (is_taken s.file name))
+    pub next_start : IsTrue (may_follow s.place 6) → IsTrue (comes_after s 6 (row ∷ column ∷ [])) → IsTrue (nat_lt row dev.rows && nat_lt column dev.columns) → IsTrue (not (is_clock s.file.clock name || is_among name (port_names s.file.ins) || is_among name (start_names s.file.starts)))
         → Next dev s (form.Start row column init name) (codes "start" ∷ decimal row ∷ decimal column ∷ decimal init ∷ name ∷ [])
     next_start h rises on free =
         let at = follows_6 s.place h in

@@ -24,7 +24,8 @@ use Rattle.act1_fuses.specs.declared.form.FuseState.{FuseState}
 use Rattle.act1_fuses.specs.declared.fuses.FuseFile.{FuseFile}
 use Rattle.act1_fuses.specs.declared.fuses.StartAt.{StartAt}
 use Rattle.act1_fuses.proofs.Fields.{SiteFits, FitsFields}
-use Rattle.act1_fuses.specs.Reading.{may_follow, comes_after, is_among, is_taken, fault_of, state_with, first_state, fuse_rules}
+use Rattle.act1_fuses.specs.Given.{is_among, is_clock}
+use Rattle.act1_fuses.specs.Reading.{may_follow, comes_after, fault_of, state_with, first_state, fuse_rules}
 use Rattle.act1_fuses.specs.Rules.{port_names, start_names, IsApart, IsStart, KeepsRules}
 use Rattle.act1_fuses.specs.SiteTest.{is_site}
 use Rattle.act1_fuses.specs.Text.{clock_lines, port_words, start_words, site_words, track_word, line_words, file_lines}
@@ -130,7 +131,7 @@ module _ (dev : Device) (f : FuseFile) (keeps : KeepsRules dev f) (fits : FitsFi
       let others = or_parts (is_among q.name (port_names f.ins)) (is_among q.name (start_names before)) (any_parts (λ (n : List ℕ). bytes_eq n q.name) (port_names f.ins) (start_names before)
       (none_among q.name (port_names f.ins ++ start_names before) (pairs_at (λ (a b : List ℕ). a ≢ b) (sources_of f) (port_names f.ins ++ start_names before) q.name (start_names rest) sources keeps.inputs))) in
       let g : FuseFile = part_of f f.ins f.outs before [] in
-      let free : is_taken g q.name ≡ false = not_or _ (is_among q.name (start_names before)) (not_or _ (is_among q.name (port_names f.ins)) apart others.0) others.1 in
+      let free : (is_clock g.clock q.name || is_among q.name (port_names g.ins) || is_among q.name (start_names g.starts)) ≡ false = not_or _ (is_among q.name (start_names before)) (not_or _ (is_among q.name (port_names f.ins)) apart others.0) others.1 in
       let numbers = after_last s.place 6 s.last (last_of spot_numbers (spots_of before)) at.last (λ p. sym (ap (λ (l : List StartAt). last_of spot_numbers (spots_of l)) (at.fresh p))) (cases_eq s.place 6) in
       let rising : IsTrue (is_before (last_of spot_numbers (spots_of before)) (spot_numbers q.spot)) = rises_at spot_numbers SpotIsBefore from_spots (spots_of f.starts) (spots_of before) q.spot (spots_of rest) spots refl keeps.spots_rise in
       let after : IsTrue (comes_after s 6 (q.spot.row ∷ q.spot.column ∷ [])) = subst (λ (l : List ℕ). IsTrue (is_before l (spot_numbers q.spot))) (sym numbers) rising in
@@ -138,9 +139,9 @@ module _ (dev : Device) (f : FuseFile) (keeps : KeepsRules dev f) (fits : FitsFi
       let is_on : IsTrue on = and_of (nat_lt q.spot.row dev.rows) (nat_lt q.spot.column dev.columns) (lower q.spot.row dev.rows is.row) (lower q.spot.column dev.columns is.column) in
       let fault : fault_of dev s (form.Start q.spot.row q.spot.column q.init q.name) ≡ None
       = subst (λ (h : FuseFile). fault_of dev (record { place = s.place; last = s.last; file = h }) (form.Start q.spot.row q.spot.column q.init q.name) ≡ None) (sym at.file)
-      (passes (may_follow s.place 6) kind.Order ((comes_after s 6 (q.spot.row ∷ q.spot.column ∷ []), kind.Order) ∷ (on, kind.Site) ∷ (not (is_taken g q.name), kind.Name) ∷ []) (follow_6 s.place at.low at.high)
-      (passes (comes_after s 6 (q.spot.row ∷ q.spot.column ∷ [])) kind.Order ((on, kind.Site) ∷ (not (is_taken g q.name), kind.Name) ∷ []) after
-      (passes on kind.Site ((not (is_taken g q.name), kind.Name) ∷ []) is_on (passes (not (is_taken g q.name)) kind.Name [] (not_true _ free) refl)))) in
+      (passes (may_follow s.place 6) kind.Order ((comes_after s 6 (q.spot.row ∷ q.spot.column ∷ []), kind.Order) ∷ (on, kind.Site) ∷ (not (is_clock g.clock q.name || is_among q.name (port_names g.ins) || is_among q.name (start_names g.starts)), kind.Name) ∷ []) (follow_6 s.place at.low at.high)
+      (passes (comes_after s 6 (q.spot.row ∷ q.spot.column ∷ [])) kind.Order ((on, kind.Site) ∷ (not (is_clock g.clock q.name || is_among q.name (port_names g.ins) || is_among q.name (start_names g.starts)), kind.Name) ∷ []) after
+      (passes on kind.Site ((not (is_clock g.clock q.name || is_among q.name (port_names g.ins) || is_among q.name (start_names g.starts)), kind.Name) ∷ []) is_on (passes (not (is_clock g.clock q.name || is_among q.name (port_names g.ins) || is_among q.name (start_names g.starts))) kind.Name [] (not_true _ free) refl)))) in
       let rows = few_rows dev in
       let columns = few_columns dev in
       let row = is.row in

@@ -1,5 +1,6 @@
 pub mod Array
 pub mod Forms
+pub mod Given
 pub mod OneCircuit
 pub mod OneFile
 pub mod Reading

@@ -15,7 +15,7 @@ use Rattle.act1_fuses.specs.declared.form.FuseState.{FuseState}
 use Rattle.act1_fuses.specs.declared.fuses.FuseFile.{FuseFile}
 use Rattle.act1_fuses.specs.declared.fuses.Port.{Port}
 use Rattle.act1_fuses.specs.Forms.{form_of}
-use Rattle.act1_fuses.specs.Rules.{port_names, start_names}
+use Rattle.act1_fuses.specs.Given.{given_of, is_own_name}
 use Rattle.act1_fuses.specs.SiteTest.{is_site}
 
 -- the place of a line's kind among the kinds, which are numbered in the order in which they stand in a file
@@ -45,19 +45,6 @@ uses_pad pad ports = list_any (λ (port : Port). port.pad == pad) ports
 abbrev pub is_free_pad : Device → FuseFile → ℕ → Bool
 is_free_pad dev f pad = nat_le pad 65535 && nat_lt pad (length dev.pads) && not (uses_pad pad f.ins || uses_pad pad f.outs)
 
--- the file has a clock of this name
-abbrev pub is_clock : Option (List ℕ) → List ℕ → Bool
-is_clock None name = false
-is_clock (Some clock) name = bytes_eq clock name
-
--- it is one of the names
-abbrev pub is_among : List ℕ → List (List ℕ) → Bool
-is_among name names = list_any (λ other. bytes_eq other name) names
-
--- a latch may not have this name
-abbrev pub is_taken : FuseFile → List ℕ → Bool
-is_taken f name = is_clock f.clock name || is_among name (port_names f.ins) || is_among name (start_names f.starts)
-
 -- the first of these tests that fails gives its kind
 abbrev pub first_failing : List (Bool × FuseKind) → Option FuseKind
 first_failing [] = None
@@ -68,12 +55,12 @@ abbrev pub rules_of : Device → FuseState → FuseLine → List (Bool × FuseKi
 rules_of dev s form.Header = []
 rules_of dev s (form.Device name) = (bytes_eq name dev.name, kind.Device) ∷ []
 rules_of dev s (form.Clock name) = []
-rules_of dev s (form.In pad name) = (is_free_pad dev s.file pad, kind.Pad) ∷ (not (is_clock s.file.clock name || is_among name (port_names s.file.ins)), kind.Name) ∷ []
-rules_of dev s (form.Out pad name) = (is_free_pad dev s.file pad, kind.Pad) ∷ (not (is_clock s.file.clock name || is_among name (port_names s.file.outs)), kind.Name) ∷ []
+rules_of dev s (form.In pad name) = (is_free_pad dev s.file pad, kind.Pad) ∷ (is_own_name (given_of s.file) s.file.clock (form.In pad name), kind.Name) ∷ []
+rules_of dev s (form.Out pad name) = (is_free_pad dev s.file pad, kind.Pad) ∷ (is_own_name (given_of s.file) s.file.clock (form.Out pad name), kind.Name) ∷ []
 rules_of dev s (form.Start row column init name) =
     (comes_after s 6 (row ∷ column ∷ []), kind.Order)
     ∷ (nat_lt row dev.rows && nat_lt column dev.columns, kind.Site)
-    ∷ (not (is_taken s.file name), kind.Name)
+    ∷ (is_own_name (given_of s.file) s.file.clock (form.Start row column init name), kind.Name)
     ∷ []
 rules_of dev s (form.Fuse numbers None) = (comes_after s 7 numbers, kind.Order) ∷ (false, kind.Site) ∷ []
 rules_of dev s (form.Fuse numbers (Some site)) = (comes_after s 7 numbers, kind.Order) ∷ (is_site dev site, kind.Site) ∷ []

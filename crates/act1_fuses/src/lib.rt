@@ -4,11 +4,13 @@
 mod fault;
 mod form;
 mod fuses;
+mod given;
 mod laws;
 mod lines;
 mod read;
 #[cfg(test)]
 mod read_tests;
+mod reader;
 mod step;
 mod text_laws;
 mod write;

@@ -4,11 +4,10 @@ ghost use Rattle.act1_fuses.specs.Reading.{fuse_rules};
 ghost use Rattle.act1_fuses.specs.Reads.{FuseReads, ReadsAgain};
 
 use crate::fault::{FuseFault, FuseKind};
-use crate::form::FuseState;
 use crate::fuses::FuseFile;
 use crate::lines::read_line;
-use crate::step::step;
-use act1_base::{Format, Items, Memory, Name, Stop, TextFault, read_text};
+use crate::reader::FuseReader;
+use act1_base::{Format, Memory, Stop, TextFault, read_text};
 use act1_device::Device;
 use std::alloc::Global;
 
@@ -20,50 +19,37 @@ struct FuseFormat<'a> {
 }
 
 impl<'a> Format for FuseFormat<'a> {
-    type State = FuseState;
+    type State = FuseReader;
 
     type Kind = FuseKind;
 
     ghost rules = { λ format. fuse_rules format.device.now };
 
-    fn start(&self) -> Result<FuseState, Memory> {
-        let alloc = self.alloc;
-        let file = FuseFile {
-            device: Name::new(alloc, b"")?,
-            clock: None,
-            ins: Items::new(alloc),
-            outs: Items::new(alloc),
-            starts: Items::new(alloc),
-            sites: Items::new(alloc),
-        };
-        Ok(FuseState {
-            place: 0,
-            last: Items::new(alloc),
-            file,
-        })
+    fn start(&self) -> Result<FuseReader, Memory> {
+        FuseReader::new(self.alloc)
     }
 
-    fn after(&self, state: FuseState, line: &[u8]) -> Result<FuseState, Stop<FuseKind>> {
-        if state.place == 8 {
+    fn after(&self, reader: FuseReader, line: &[u8]) -> Result<FuseReader, Stop<FuseKind>> {
+        if reader.has_ended() {
             return Err(Stop::Fault(FuseKind::End));
         }
         match read_line(self.alloc, line)? {
-            Some(line) => step(self.alloc, self.device, state, line),
+            Some(line) => reader.step(self.alloc, self.device, line),
             None => Err(Stop::Fault(FuseKind::Line)),
         }
     }
 
-    fn unended(&self, state: FuseState) -> FuseKind {
-        if state.place == 8 {
+    fn unended(&self, reader: FuseReader) -> FuseKind {
+        if reader.has_ended() {
             FuseKind::End
         } else {
             FuseKind::Line
         }
     }
 
-    fn end(&self, state: FuseState) -> Result<FuseState, FuseKind> {
-        if state.place == 8 {
-            Ok(state)
+    fn end(&self, reader: FuseReader) -> Result<FuseReader, FuseKind> {
+        if reader.has_ended() {
+            Ok(reader)
         } else {
             Err(FuseKind::End)
         }
@@ -93,7 +79,7 @@ pub fn read_fuses(alloc: Global, device: &Device, bytes: &[u8]) -> Result<FuseFi
 {
     let format = FuseFormat { alloc, device };
     match read_text(alloc, &format, bytes) {
-        Ok(state) => Ok(state.file),
+        Ok(reader) => Ok(reader.into_file()),
         Err(Stop::Fault(TextFault { line, kind })) => Err(FuseFault { line, kind }),
         Err(Stop::Memory) => Err(FuseFault {
             line: 0,

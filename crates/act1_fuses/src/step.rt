@@ -3,7 +3,7 @@ ghost use Rattle.std.specs.List.{list_any};
 ghost use Rattle.std.specs.Str.{bytes_eq};
 ghost use Rattle.act1_base.specs.Rising.{is_before};
 ghost use Rattle.act1_base.specs.Texts.{Gives};
-ghost use Rattle.act1_fuses.specs.Rules.{port_names, start_names};
+ghost use Rattle.act1_fuses.specs.Given.{given_of, is_own_name};
 ghost use Rattle.act1_fuses.specs.Reading as reading;
 ghost use Rattle.act1_fuses.specs.SiteTest.{is_site};
 ghost use Rattle.act1_fuses.specs.declared.form.FuseLine.TheVariants as form;
@@ -90,45 +90,11 @@ fn is_free_pad(device: &Device, file: &FuseFile, pad: u32) -> bool
     !(uses_pad(pad, file.ins.as_slice()) || uses_pad(pad, file.outs.as_slice()))
 }
 
-// Whether the file has a clock of this name.
-fn is_clock(clock: &Option<Name>, name: &Name) -> bool
-    ensures { result ≡ reading.is_clock clock.now name.now }
-{
-    match clock {
-        Some(clock) => has_name(clock, name),
-        None => false,
-    }
-}
-
 // Whether two names are the same.
 fn has_name(other: &Name, name: &Name) -> bool
     ensures { result ≡ bytes_eq other.now name.now }
 {
     other.as_bytes() == name.as_bytes()
-}
-
-// Whether one of the ports has the name.
-fn names_port(name: &Name, ports: &[Port]) -> bool
-    ensures { result ≡ reading.is_among name.now (port_names ports.now) }
-{
-    for port in ports {
-        if has_name(&port.name, name) {
-            return true;
-        }
-    }
-    false
-}
-
-// Whether one of the starts has the name.
-fn names_start(name: &Name, starts: &[StartAt]) -> bool
-    ensures { result ≡ reading.is_among name.now (start_names starts.now) }
-{
-    for start in starts {
-        if has_name(&start.name, name) {
-            return true;
-        }
-    }
-    false
 }
 
 // Whether an antifuse may stand at a site.
@@ -184,15 +150,17 @@ fn add_in(
     state: FuseState,
     pad: u32,
     name: Name,
+    is_own: bool,
 ) -> Result<FuseState, Stop<FuseKind>>
-    requires { IsTrue (reading.may_follow state.place 4) }
+    requires place { IsTrue (reading.may_follow state.place 4) }
+    requires own { is_own ≡ is_own_name (given_of state.file) state.file.clock (form.In pad name) }
     ensures { Gives result (reading.step device.now state (form.In pad name)) }
 {
     let FuseState { mut file, .. } = state;
     if !is_free_pad(device, &file, pad) {
         return Err(Stop::Fault(FuseKind::Pad));
     }
-    if is_clock(&file.clock, &name) || names_port(&name, file.ins.as_slice()) {
+    if !is_own {
         return Err(Stop::Fault(FuseKind::Name));
     }
     let pad = pad as u16;
@@ -207,29 +175,22 @@ fn add_out(
     state: FuseState,
     pad: u32,
     name: Name,
+    is_own: bool,
 ) -> Result<FuseState, Stop<FuseKind>>
-    requires { IsTrue (reading.may_follow state.place 5) }
+    requires place { IsTrue (reading.may_follow state.place 5) }
+    requires own { is_own ≡ is_own_name (given_of state.file) state.file.clock (form.Out pad name) }
     ensures { Gives result (reading.step device.now state (form.Out pad name)) }
 {
     let FuseState { mut file, .. } = state;
     if !is_free_pad(device, &file, pad) {
         return Err(Stop::Fault(FuseKind::Pad));
     }
-    if is_clock(&file.clock, &name) || names_port(&name, file.outs.as_slice()) {
+    if !is_own {
         return Err(Stop::Fault(FuseKind::Name));
     }
     let pad = pad as u16;
     file.outs.push(Port { pad, name })?;
     Ok(moved(alloc, 5, file))
-}
-
-// Whether a latch may not have this name.
-fn is_taken(file: &FuseFile, name: &Name) -> bool
-    ensures { result ≡ reading.is_taken file.now name.now }
-{
-    is_clock(&file.clock, name)
-        || names_port(name, file.ins.as_slice())
-        || names_start(name, file.starts.as_slice())
 }
 
 // The line of a start.
@@ -240,8 +201,10 @@ fn add_start(
     spot: (u32, u32),
     init: u8,
     name: Name,
+    is_own: bool,
 ) -> Result<FuseState, Stop<FuseKind>>
-    requires { IsTrue (reading.may_follow state.place 6) }
+    requires place { IsTrue (reading.may_follow state.place 6) }
+    requires own { is_own ≡ is_own_name (given_of state.file) state.file.clock (form.Start spot.0 spot.1 init name) }
     ensures { Gives result (reading.step device.now state (form.Start spot.0 spot.1 init name)) }
 {
     let (row, column) = spot;
@@ -252,7 +215,7 @@ fn add_start(
         return Err(Stop::Fault(FuseKind::Site));
     }
     let FuseState { mut file, .. } = state;
-    if is_taken(&file, &name) {
+    if !is_own {
         return Err(Stop::Fault(FuseKind::Name));
     }
     let last = Items::from_slice(alloc, &[row, column])?;
@@ -294,13 +257,15 @@ fn add_fuse(
 }
 
 /// What a line of an antifuse file of the device does: the state with what the line says, or the
-/// least kind of what is wrong with it.
+/// least kind of what is wrong with it. Whether what the line names may have its name is told.
 pub fn step(
     alloc: Global,
     device: &Device,
     state: FuseState,
     line: FuseLine,
+    is_own: bool,
 ) -> Result<FuseState, Stop<FuseKind>>
+    requires { is_own ≡ is_own_name (given_of state.file) state.file.clock line }
     ensures { Gives result (reading.step device.now state line) }
 {
     if !may_follow(state.place, place_of(&line)) {
@@ -310,14 +275,14 @@ pub fn step(
         FuseLine::Header => Ok(moved(alloc, 1, state.file)),
         FuseLine::Device { name } => add_device(alloc, device, state, name),
         FuseLine::Clock { name } => Ok(add_clock(alloc, state, name)),
-        FuseLine::In { pad, name } => add_in(alloc, device, state, pad, name),
-        FuseLine::Out { pad, name } => add_out(alloc, device, state, pad, name),
+        FuseLine::In { pad, name } => add_in(alloc, device, state, pad, name, is_own),
+        FuseLine::Out { pad, name } => add_out(alloc, device, state, pad, name, is_own),
         FuseLine::Start {
             row,
             column,
             init,
             name,
-        } => add_start(alloc, device, state, (row, column), init, name),
+        } => add_start(alloc, device, state, (row, column), init, name, is_own),
         FuseLine::Fuse { numbers, site } => add_fuse(device, state, numbers, site),
         FuseLine::End => Ok(moved(alloc, 8, state.file)),
     }
