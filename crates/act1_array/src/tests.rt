@@ -8,9 +8,12 @@ use std::test::Fail;
 
 const ORIGIN: Spot = Spot { row: 0, column: 0 };
 
-// The antifuses of an inverter but for that of its last pin: S0 is the input, A0 is 1 and all other
-// pins are 0.
-const INVERTER: &[u8] = b"fuse 0 0 out 0 0\n\
+// An inverter made by hand: S0 is the input, A0 is 1 and all other pins are 0.
+const INVERTER: &[u8] = b"act1 fuses 1\n\
+    device tiny\n\
+    in 2 a\n\
+    out 0 y\n\
+    fuse 0 0 out 0 0\n\
     fuse 0 0 pad 0\n\
     fuse 0 gnd pin 0 0 A1\n\
     fuse 0 gnd pin 0 0 SA\n\
@@ -19,9 +22,26 @@ const INVERTER: &[u8] = b"fuse 0 0 out 0 0\n\
     fuse 1 0 pin 0 0 S0\n\
     fuse 1 0 pad 2\n\
     fuse 1 gnd pin 0 0 B1\n\
-    fuse 1 gnd pin 0 0 SB\n";
+    fuse 1 gnd pin 0 0 SB\n\
+    fuse 1 gnd pin 0 0 S1\n\
+    end\n";
 
-const LAST_PIN: &[u8] = b"fuse 1 gnd pin 0 0 S1\n";
+// The inverter without its last antifuse, so that the last pin is open.
+const OPEN_PIN: &[u8] = b"act1 fuses 1\n\
+    device tiny\n\
+    in 2 a\n\
+    out 0 y\n\
+    fuse 0 0 out 0 0\n\
+    fuse 0 0 pad 0\n\
+    fuse 0 gnd pin 0 0 A1\n\
+    fuse 0 gnd pin 0 0 SA\n\
+    fuse 0 gnd pin 0 0 B0\n\
+    fuse 0 vcc pin 0 0 A0\n\
+    fuse 1 0 pin 0 0 S0\n\
+    fuse 1 0 pad 2\n\
+    fuse 1 gnd pin 0 0 B1\n\
+    fuse 1 gnd pin 0 0 SB\n\
+    end\n";
 
 // One row of two modules, with one track a channel and a pad at each end of both channels.
 #[tactic(auto, unfolding(act1_device::specs::Rules::is_device))]
@@ -61,26 +81,21 @@ fn tiny(alloc: Global) -> Result<Device, Memory> {
     })
 }
 
-// What an array on the tiny device gives, by a file with an input, an output and these lines behind
-// them. Where that is no antifuse file, the answer is `Memory`.
-fn given(alloc: Global, lines: &[&[u8]]) -> Result<Result<Placed, ArrayFault>, Memory> {
+// What the array of an antifuse file on the tiny device gives. Where the text is no antifuse file, the
+// answer is `Memory`.
+fn given(alloc: Global, text: &[u8]) -> Result<Result<Placed, ArrayFault>, Memory> {
     let device = tiny(alloc)?;
-    let mut text = Vec::from_slice(alloc, b"act1 fuses 1\ndevice tiny\nin 2 a\nout 0 y\n")?;
-    for line in lines {
-        text.extend_from_slice(line)?;
-    }
-    text.extend_from_slice(b"end\n")?;
     if text.len() > 1000 {
         return Err(Memory);
     }
-    match read_fuses(alloc, &device, &text) {
+    match read_fuses(alloc, &device, text) {
         Ok(file) => Ok(circuit_of(alloc, &device, &file)),
         Err(_) => Err(Memory),
     }
 }
 
-fn refusal(alloc: Global, lines: &[&[u8]]) -> Result<Option<ArrayFault>, Memory> {
-    match given(alloc, lines)? {
+fn refusal(alloc: Global, text: &[u8]) -> Result<Option<ArrayFault>, Memory> {
+    match given(alloc, text)? {
         Ok(_) => Ok(None),
         Err(fault) => Ok(Some(fault)),
     }
@@ -88,7 +103,7 @@ fn refusal(alloc: Global, lines: &[&[u8]]) -> Result<Option<ArrayFault>, Memory>
 
 #[test]
 fn reads_the_inverter(rt: HostRuntime) -> Result<(), Fail> {
-    match given(rt.alloc(), &[INVERTER, LAST_PIN])? {
+    match given(rt.alloc(), INVERTER)? {
         Ok(Placed { circuit, spots }) => {
             let (zero, input) = (Source::Zero, Source::Input(0));
             let pins = [Source::One, zero, zero, zero, zero, zero, input, zero];
@@ -111,8 +126,8 @@ fn refuses_two_joined_outputs(rt: HostRuntime) -> Result<(), Fail> {
         first: Source::Module(0),
         second: Source::Module(1),
     };
-    let lines: &[u8] = b"fuse 0 0 out 0 0\nfuse 0 0 out 0 1\n";
-    assert_eq!(rt; refusal(rt.alloc(), &[lines])?, Some(wanted));
+    let joined: &[u8] = b"act1 fuses 1\ndevice tiny\nfuse 0 0 out 0 0\nfuse 0 0 out 0 1\nend\n";
+    assert_eq!(rt; refusal(rt.alloc(), joined)?, Some(wanted));
     Ok(())
 }
 
@@ -122,11 +137,14 @@ fn refuses_the_least_pair(rt: HostRuntime) -> Result<(), Fail> {
         first: Source::Zero,
         second: Source::One,
     };
-    let lines: &[u8] = b"fuse 0 0 out 0 0\n\
+    let joined: &[u8] = b"act1 fuses 1\n\
+        device tiny\n\
+        fuse 0 0 out 0 0\n\
         fuse 0 0 out 0 1\n\
         fuse 0 gnd pin 0 0 A0\n\
-        fuse 0 vcc pin 0 0 A0\n";
-    assert_eq!(rt; refusal(rt.alloc(), &[lines])?, Some(wanted));
+        fuse 0 vcc pin 0 0 A0\n\
+        end\n";
+    assert_eq!(rt; refusal(rt.alloc(), joined)?, Some(wanted));
     Ok(())
 }
 
@@ -142,16 +160,17 @@ fn refuses_the_first_open_pin(rt: HostRuntime) -> Result<(), Fail> {
             pin: 7,
         },
     );
-    let output: &[u8] = b"fuse 0 0 out 0 0\n";
-    assert_eq!(rt; refusal(rt.alloc(), &[output])?, Some(first));
-    assert_eq!(rt; refusal(rt.alloc(), &[INVERTER])?, Some(last));
+    let output: &[u8] = b"act1 fuses 1\ndevice tiny\nfuse 0 0 out 0 0\nend\n";
+    assert_eq!(rt; refusal(rt.alloc(), output)?, Some(first));
+    assert_eq!(rt; refusal(rt.alloc(), OPEN_PIN)?, Some(last));
     Ok(())
 }
 
 #[test]
 fn refuses_an_open_output(rt: HostRuntime) -> Result<(), Fail> {
     let wanted = ArrayFault::Unfed { output: 0 };
-    assert_eq!(rt; refusal(rt.alloc(), &[])?, Some(wanted));
+    let unfed: &[u8] = b"act1 fuses 1\ndevice tiny\nout 0 y\nend\n";
+    assert_eq!(rt; refusal(rt.alloc(), unfed)?, Some(wanted));
     Ok(())
 }
 
@@ -160,10 +179,7 @@ fn refuses_a_start_at_an_unused_module(rt: HostRuntime) -> Result<(), Fail> {
     let wanted = ArrayFault::StartUnused {
         spot: Spot { row: 0, column: 1 },
     };
-    let start: &[u8] = b"start 0 1 0 q\n";
-    assert_eq!(rt;
-        refusal(rt.alloc(), &[start, INVERTER, LAST_PIN])?,
-        Some(wanted)
-    );
+    let start: &[u8] = b"act1 fuses 1\ndevice tiny\nstart 0 1 0 q\nend\n";
+    assert_eq!(rt; refusal(rt.alloc(), start)?, Some(wanted));
     Ok(())
 }
