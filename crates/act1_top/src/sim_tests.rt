@@ -96,7 +96,8 @@ fn spoilt_fuses(rt: HostRuntime) -> Result<(), Fail> {
     let no_site =
         "act1 fuses 1\ndevice tiny\nout 0 y\nout 1 z\nfuse 0 clk pad 0\nfuse 0 vcc pad 0\nend\n";
     simulates(&rt, no_site, "", 6, "fuses line 5 Site\n")?;
-    let twice = "act1 fuses 1\ndevice tiny\nout 0 y\nout 0 z\nend\n";
+    let twice =
+        "act1 fuses 1\ndevice tiny\nout 0 y\nout 0 z\nfuse 0 gnd pad 1\nfuse 0 vcc pad 0\nend\n";
     simulates(&rt, twice, "", 6, "fuses line 4 Pad\n")?;
     let other = "act1 fuses 1\ndevice small\nend\n";
     simulates(&rt, other, "", 6, "fuses line 2 Device\n")?;
