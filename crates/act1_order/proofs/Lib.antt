@@ -1,5 +1,8 @@
+pub mod ClosingLemmas
 pub mod GraphLemmas
 pub mod ListGets
 pub mod ReachLemmas
+pub mod ReadersLemmas
 pub mod SearchLemmas
+pub mod SortedLemmas
 pub mod Stands

@@ -1,13 +1,16 @@
--- What a vertex depends on is what a search from it marks.
-use Rattle.std.proofs.Common.{ℕ, suc, zero, ◌≡◌, ◌≢◌, ◌<◌, ◌+◌, ◌⊎◌, Bool, true, false, not, List, [], ◌∷◌, ◌++◌, length, get_or, Option, Some, refl, sym, ap, subst, ◌∙◌, inl, inr, arith, cond, replicate, take}
+-- What leads to some vertices is what a search back from them marks.
+use Rattle.std.proofs.Common.{ℕ, ◌≡◌, ◌≢◌, ◌<◌, ◌≤◌, ◌+◌, ◌⊎◌, Bool, true, false, not, List, [], ◌∷◌, ◌++◌, length, get_or, Some, refl, sym, ap, subst, ◌∙◌, inl, inr, arith, cond, take}
 use Rattle.std.specs.Prelude.{Contains, slice_get, slice_set, slice_index_or}
 use Rattle.std.proofs.lemmas.Bool.{cases_eq}
 use Rattle.std.proofs.lemmas.Option.{get_or_from_slice_get}
-use Rattle.std.proofs.lemmas.List.{length-set, length-append, length-replicate, take_more}
+use Rattle.std.proofs.lemmas.List.{length-set, length-append, take_more}
 use Rattle.std.proofs.lemmas.List.Sums.{sum_by-set}
-use Rattle.act1_order.specs.Order.{Reads, AreReads, LeadsTo, OnRing}
-use Rattle.act1_order.specs.Reach.{DependsOn, IsMarked, unmarked, Marks, AreReached}
+use Rattle.act1_order.specs.Order.{Reads, LeadsTo, OnRing}
+use Rattle.act1_order.specs.Closing.{DependsOn, IsClosingOrder, LeadsFrom}
+use Rattle.act1_order.specs.Readers.{AreReaders}
+use Rattle.act1_order.specs.Reach.{AreMarkedFrom, AreReached, HasMarked, IsMarked, unmarked, Marks}
 use Rattle.act1_order.specs.declared.reach.Reached.{Reached}
+use Rattle.act1_order.proofs.ClosingLemmas.{leads_before, ring_by, ring_reads}
 use Rattle.act1_order.proofs.ListGets.{some_is, get_within, get_more, get_last, get_cases, contains_at, place_of, get_written, get_unwritten}
 
 pub contains_more : (xs : List ℕ) (x y : ℕ) → Contains xs x → Contains (xs ++ y ∷ []) x
@@ -16,24 +19,24 @@ contains_more xs x y c = let p = place_of xs x c in contains_at (xs ++ y ∷ [])
 pub contains_last : (xs : List ℕ) (x y : ℕ) → x ≡ y → Contains (xs ++ y ∷ []) x
 contains_last xs x y e = subst (λ (u : ℕ). Contains (xs ++ y ∷ []) u) (sym e) (contains_at (xs ++ y ∷ []) (length xs) y (get_last xs y (length xs) refl))
 
-contains_cases : (xs : List ℕ) (x y : ℕ) → Contains (xs ++ y ∷ []) x → Contains xs x ⊎ (x ≡ y)
+pub contains_cases : (xs : List ℕ) (x y : ℕ) → Contains (xs ++ y ∷ []) x → Contains xs x ⊎ (x ≡ y)
 contains_cases xs x y c = let p = place_of (xs ++ y ∷ []) x c in by (get_cases xs y x p.0 p.1)
   where
     by : {i : ℕ} → (slice_get xs i ≡ Some x) ⊎ ((i ≡ length xs) × (y ≡ x)) → Contains xs x ⊎ (x ≡ y)
     by {i} (inl h) = inl (contains_at xs i x h)
     by (inr h) = inr (sym h.1)
 
-none_in : (x : ℕ) → Contains [] x → ⊥
+pub none_in : (x : ℕ) → Contains [] x → ⊥
 none_in x c = absurd (omega (arith, c.1))
 
-one_in : (x y : ℕ) → Contains (y ∷ []) x → x ≡ y
+pub one_in : (x y : ℕ) → Contains (y ∷ []) x → x ≡ y
 one_in x y c = by (contains_cases [] x y c)
   where
     by : Contains [] x ⊎ (x ≡ y) → x ≡ y
     by (inl h) = absurd (none_in x h)
     by (inr e) = e
 
-this_in : (x y : ℕ) → x ≡ y → Contains (y ∷ []) x
+pub this_in : (x y : ℕ) → x ≡ y → Contains (y ∷ []) x
 this_in x y e = contains_last [] x y e
 
 unmarked_set : (marks : List Bool) (w : ℕ) → slice_get marks w ≡ Some false → unmarked (slice_set marks w true) + 1 ≡ unmarked marks
@@ -127,49 +130,58 @@ one_marked ws w a b d f g = record {
     left_by u (inl c) = left_first u (f.left_marked u c)
     left_by u (inr m) = inr m
 
-leads_more : (reads : List (List ℕ)) (v : ℕ) (path : List ℕ) (u w : ℕ) → LeadsTo reads v path u → Reads reads u w → LeadsTo reads v (path ++ u ∷ []) w
-leads_more reads v [] u w h r = (h, r)
-leads_more reads v (t ∷ path) u w h r = (h.0, leads_more reads t path u w h.1 r)
+pub marks_more : (xs : List ℕ) (i : ℕ) (a b d : Reached) → i < length xs → Marks (take i xs) a b → Marks (get_or xs i 0 ∷ []) b d → Marks (take (i + 1) xs) a d
+marks_more xs i a b d low f g = subst (λ (ws : List ℕ). Marks ws a d) (sym (take_more xs i 0 low)) (one_marked (take i xs) (get_or xs i 0) a b d f g)
 
--- the search begins with what v reads
-pub reach_start : (reads : List (List ℕ)) (v : ℕ) (old new : Reached) → old.marks.items ≡ replicate (length reads) false → old.left.items ≡ [] → Marks (slice_index_or reads v []) old new → AreReached reads v new
-reach_start reads v old new bare none m = record {
-  all = m.all ∙ ap (λ (ms : List Bool). length ms) bare ∙ length-replicate (length reads) false;
-  reached = λ w is. reached_by w (m.only w is);
-  first = λ w r. m.marked w r;
+pub no_length : (xs : List ℕ) → length xs ≡ 0 → xs ≡ []
+no_length [] e = refl
+no_length (x ∷ xs) e = absurd (omega arith)
+
+-- one vertex earlier, the search back goes on from that one
+pub reach_start : (reads : List (List ℕ)) (order : List ℕ) → IsClosingOrder reads order → (p v : ℕ) → slice_get order p ≡ Some v → (old new : Reached) → AreMarkedFrom reads order (p + 1) old → Marks (v ∷ []) old new → AreReached reads order p new
+reach_start reads order o p v is old new h m = record {
+  all = m.all ∙ h.reached.all;
+  leads = λ u mark. leads_by u (m.only u mark);
+  late = λ q z later iz. late_by q z later iz (cases_eq q p);
   left_marked = λ u c. left_by u (m.left_marked u c);
-  closed = λ u w is r. closed_by u w (m.only u is);
+  closed = λ u w mark r. closed_by u w r (m.only w mark);
 }
   where
-    bare_at : (n w : ℕ) → IsMarked (replicate n false) w → ⊥
-    bare_at zero w is = cc
-    bare_at (suc n) zero is = cc
-    bare_at (suc n) (suc w) is = bare_at n w is
+    none : (u : ℕ) → Contains old.left.items u → ⊥
+    none u c = none_in u (subst (λ (us : List ℕ). Contains us u) h.none_left c)
 
-    old_bare : (w : ℕ) → IsMarked old.marks.items w → ⊥
-    old_bare w is = bare_at (length reads) w (subst (λ (ms : List Bool). IsMarked ms w) bare is)
+    before : (u : ℕ) → LeadsFrom reads order (p + 1) u → LeadsFrom reads order p u
+    before u l = let late = l.late in record { place = l.place; vertex = l.vertex; late = omega arith; there = l.there; leads = l.leads }
 
-    reached_by : (w : ℕ) → IsMarked old.marks.items w ⊎ (Contains (slice_index_or reads v []) w × Contains new.left.items w) → DependsOn reads v w
-    reached_by w (inl is) = absurd (old_bare w is)
-    reached_by w (inr p) = record { path = []; leads = p.0 }
+    leads_by : (u : ℕ) → IsMarked old.marks.items u ⊎ (Contains (v ∷ []) u × Contains new.left.items u) → LeadsFrom reads order p u
+    leads_by u (inl mark) = before u (h.reached.leads u mark)
+    leads_by u (inr c) = record { place = p; vertex = v; late = omega arith; there = is; leads = inl (one_in u v c.0) }
+
+    late_by : (q z : ℕ) → p ≤ q → slice_get order q ≡ Some z → (q ≡ p) ⊎ (q ≢ p) → IsMarked new.marks.items z
+    late_by q z later iz (inl e) = m.marked z (this_in z v (some_is z v (sym iz ∙ ap (slice_get order) e ∙ is)))
+    late_by q z later iz (inr apart) = m.kept z (h.reached.late q z (omega arith) iz)
 
     left_by : (u : ℕ) → Contains old.left.items u ⊎ IsMarked new.marks.items u → IsMarked new.marks.items u
-    left_by u (inl c) = absurd (none_in u (subst (λ (us : List ℕ). Contains us u) none c))
-    left_by u (inr is) = is
+    left_by u (inl c) = absurd (none u c)
+    left_by u (inr mark) = mark
 
-    closed_by : (u w : ℕ) → IsMarked old.marks.items u ⊎ (Contains (slice_index_or reads v []) u × Contains new.left.items u) → IsMarked new.marks.items w ⊎ Contains new.left.items u
-    closed_by u w (inl is) = absurd (old_bare u is)
-    closed_by u w (inr p) = inr p.1
+    old_by : (u w : ℕ) → IsMarked old.marks.items u ⊎ Contains old.left.items w → IsMarked new.marks.items u ⊎ Contains new.left.items w
+    old_by u w (inl mark) = inl (m.kept u mark)
+    old_by u w (inr c) = absurd (none w c)
 
--- it goes on with what the last of those reads that are still to be looked at
-pub reach_step : (reads : List (List ℕ)) (v next : ℕ) (old mid new : Reached) → AreReached reads v old → mid.marks.items ≡ old.marks.items → old.left.items ≡ mid.left.items ++ next ∷ []
-    → Marks (slice_index_or reads next []) mid new → AreReached reads v new
-reach_step reads v next old mid new h marks left m = record {
+    closed_by : (u w : ℕ) → Reads reads u w → IsMarked old.marks.items w ⊎ (Contains (v ∷ []) w × Contains new.left.items w) → IsMarked new.marks.items u ⊎ Contains new.left.items w
+    closed_by u w r (inl mark) = old_by u w (h.reached.closed u w mark r)
+    closed_by u w r (inr c) = inr c.1
+
+-- it goes on with what reads the last of those that are still to be looked at
+pub reach_step : (reads readers : List (List ℕ)) → AreReaders reads readers → (order : List ℕ) (p next : ℕ) (old mid new : Reached) → AreReached reads order p old → mid.marks.items ≡ old.marks.items → old.left.items ≡ mid.left.items ++ next ∷ []
+    → Marks (slice_index_or readers next []) mid new → AreReached reads order p new
+reach_step reads readers rs order p next old mid new h marks left m = record {
   all = m.all ∙ ap (λ (ms : List Bool). length ms) marks ∙ h.all;
-  reached = λ w is. reached_by w (m.only w is);
-  first = λ w r. kept w (h.first w r);
+  leads = λ u mark. leads_by u (m.only u mark);
+  late = λ q z later iz. kept z (h.late q z later iz);
   left_marked = λ u c. left_by u (m.left_marked u c);
-  closed = λ u w is r. closed_by u w r (m.only u is);
+  closed = λ u w mark r. closed_by u w r (m.only w mark);
 }
   where
     kept : (w : ℕ) → IsMarked old.marks.items w → IsMarked new.marks.items w
@@ -178,66 +190,58 @@ reach_step reads v next old mid new h marks left m = record {
     next_marked : IsMarked old.marks.items next
     next_marked = h.left_marked next (subst (λ (us : List ℕ). Contains us next) (sym left) (contains_last mid.left.items next next refl))
 
-    reached_by : (w : ℕ) → IsMarked mid.marks.items w ⊎ (Contains (slice_index_or reads next []) w × Contains new.left.items w) → DependsOn reads v w
-    reached_by w (inl is) = h.reached w (subst (λ (ms : List Bool). IsMarked ms w) marks is)
-    reached_by w (inr p) = let on = h.reached next next_marked in record { path = on.path ++ next ∷ []; leads = leads_more reads v on.path next w on.leads p.0 }
+    leads_by : (u : ℕ) → IsMarked mid.marks.items u ⊎ (Contains (slice_index_or readers next []) u × Contains new.left.items u) → LeadsFrom reads order p u
+    leads_by u (inl is) = h.leads u (subst (λ (ms : List Bool). IsMarked ms u) marks is)
+    leads_by u (inr c) = leads_before reads order p u next (rs.from u next c.0) (h.leads next next_marked)
 
     left_by : (u : ℕ) → Contains mid.left.items u ⊎ IsMarked new.marks.items u → IsMarked new.marks.items u
     left_by u (inl c) = kept u (h.left_marked u (subst (λ (us : List ℕ). Contains us u) (sym left) (contains_more mid.left.items u next c)))
     left_by u (inr is) = is
 
-    next_by : (u w : ℕ) → Reads reads u w → Contains mid.left.items u ⊎ (u ≡ next) → IsMarked new.marks.items w ⊎ Contains new.left.items u
-    next_by u w r (inl c) = inr (m.left_kept u c)
-    next_by u w r (inr e) = inl (m.marked w (subst (λ (t : ℕ). Reads reads t w) e r))
+    next_by : (u w : ℕ) → Reads reads u w → Contains mid.left.items w ⊎ (w ≡ next) → IsMarked new.marks.items u ⊎ Contains new.left.items w
+    next_by u w r (inl c) = inr (m.left_kept w c)
+    next_by u w r (inr e) = inl (m.marked u (rs.to u next (subst (λ (t : ℕ). Reads reads u t) e r)))
 
-    old_by : (u w : ℕ) → Reads reads u w → IsMarked old.marks.items w ⊎ Contains old.left.items u → IsMarked new.marks.items w ⊎ Contains new.left.items u
-    old_by u w r (inl is) = inl (kept w is)
-    old_by u w r (inr c) = next_by u w r (contains_cases mid.left.items u next (subst (λ (us : List ℕ). Contains us u) left c))
+    old_by : (u w : ℕ) → Reads reads u w → IsMarked old.marks.items u ⊎ Contains old.left.items w → IsMarked new.marks.items u ⊎ Contains new.left.items w
+    old_by u w r (inl is) = inl (kept u is)
+    old_by u w r (inr c) = next_by u w r (contains_cases mid.left.items w next (subst (λ (us : List ℕ). Contains us w) left c))
 
-    closed_by : (u w : ℕ) → Reads reads u w → IsMarked mid.marks.items u ⊎ (Contains (slice_index_or reads next []) u × Contains new.left.items u) → IsMarked new.marks.items w ⊎ Contains new.left.items u
-    closed_by u w r (inl is) = old_by u w r (h.closed u w (subst (λ (ms : List Bool). IsMarked ms u) marks is) r)
-    closed_by u w r (inr p) = inr p.1
+    closed_by : (u w : ℕ) → Reads reads u w → IsMarked mid.marks.items w ⊎ (Contains (slice_index_or readers next []) w × Contains new.left.items w) → IsMarked new.marks.items u ⊎ Contains new.left.items w
+    closed_by u w r (inl is) = old_by u w r (h.closed u w (subst (λ (ms : List Bool). IsMarked ms w) marks is) r)
+    closed_by u w r (inr c) = inr c.1
 
-module _ (reads : List (List ℕ)) (v : ℕ) (s : Reached) (h : AreReached reads v s) (done : s.left.items ≡ []) where
-  one : (u w : ℕ) → IsMarked s.marks.items w ⊎ Contains s.left.items u → IsMarked s.marks.items w
+-- it is done where none is left
+pub reach_done : (reads : List (List ℕ)) (order : List ℕ) (p : ℕ) (s : Reached) → AreReached reads order p s → length s.left.items ≡ 0 → AreMarkedFrom reads order p s
+reach_done reads order p s h none = record { reached = h; none_left = no_length s.left.items none }
+
+module _ (reads : List (List ℕ)) (order : List ℕ) (o : IsClosingOrder reads order) (p v : ℕ) (is : slice_get order p ≡ Some v) (s : Reached) (h : AreMarkedFrom reads order p s) where
+  one : (u w : ℕ) → IsMarked s.marks.items u ⊎ Contains s.left.items w → IsMarked s.marks.items u
   one u w (inl m) = m
-  one u w (inr c) = absurd (none_in u (subst (λ (us : List ℕ). Contains us u) done c))
+  one u w (inr c) = absurd (none_in w (subst (λ (us : List ℕ). Contains us w) h.none_left c))
 
-  follow : (u : ℕ) (path : List ℕ) (w : ℕ) → IsMarked s.marks.items u → LeadsTo reads u path w → IsMarked s.marks.items w
-  follow u [] w is r = one u w (h.closed u w is r)
-  follow u (t ∷ path) w is r = follow t path w (one u t (h.closed u t is r.0)) r.1
+  follow : (u : ℕ) (path : List ℕ) (w : ℕ) → LeadsTo reads u path w → IsMarked s.marks.items w → IsMarked s.marks.items u
+  follow u [] w r m = one u w (h.reached.closed u w m r)
+  follow u (t ∷ path) w r m = one u t (h.reached.closed u t (follow t path w r.1 m) r.0)
 
-  -- where none is left, the marks tell whether v lies on a ring
-  from_start : (path : List ℕ) (w : ℕ) → LeadsTo reads v path w → IsMarked s.marks.items w
-  from_start [] w r = h.first w r
-  from_start (t ∷ path) w r = follow t path w (h.first t r.0) r.1
+  leading_marked : (u : ℕ) → LeadsFrom reads order p u → IsMarked s.marks.items u
+  leading_marked u l = by l.leads
+    where
+      there : IsMarked s.marks.items l.vertex
+      there = h.reached.late l.place l.vertex l.late l.there
 
-  pub ring_marked : OnRing reads v → IsMarked s.marks.items v
-  ring_marked on = from_start on.path v on.leads
+      by : (u ≡ l.vertex) ⊎ DependsOn reads u l.vertex → IsMarked s.marks.items u
+      by (inl e) = subst (λ (t : ℕ). IsMarked s.marks.items t) (sym e) there
+      by (inr d) = follow u d.path l.vertex d.leads there
 
-  pub marked_ring : IsMarked s.marks.items v → OnRing reads v
-  marked_ring is = let on = h.reached v is in record { path = on.path; leads = on.leads }
+  -- a read of the vertex is marked exactly where the vertex lies on a ring
+  pub ring_marks : OnRing reads v → HasMarked s.marks.items (slice_index_or reads v [])
+  ring_marks on = let r = ring_reads reads order o p v is on in record { vertex = r.0; there = r.1; marked = leading_marked r.0 r.2 }
 
-pub marks_more : (xs : List ℕ) (i : ℕ) (a b d : Reached) → i < length xs → Marks (take i xs) a b → Marks (get_or xs i 0 ∷ []) b d → Marks (take (i + 1) xs) a d
-marks_more xs i a b d low f g = subst (λ (ws : List ℕ). Marks ws a d) (sym (take_more xs i 0 low)) (one_marked (take i xs) (get_or xs i 0) a b d f g)
+  pub marks_ring : HasMarked s.marks.items (slice_index_or reads v []) → OnRing reads v
+  marks_ring m = ring_by reads order o p v is m.vertex m.there (h.reached.leads m.vertex m.marked)
 
-pub next_low : (reads : List (List ℕ)) (v next : ℕ) (s : Reached) (left : List ℕ) → AreReached reads v s → s.left.items ≡ left ++ next ∷ [] → next < length reads
-next_low reads v next s left h e =
+-- what is still to be looked at is one of the graph
+pub left_low : (reads : List (List ℕ)) (order : List ℕ) (p next : ℕ) (s : Reached) (left : List ℕ) → AreReached reads order p s → s.left.items ≡ left ++ next ∷ [] → next < length reads
+left_low reads order p next s left h e =
     let low = get_within s.marks.items next true (h.left_marked next (subst (λ (us : List ℕ). Contains us next) (sym e) (contains_last left next next refl))) in
     let all = h.all in omega arith
-
-pub no_length : (xs : List ℕ) → length xs ≡ 0 → xs ≡ []
-no_length [] e = refl
-no_length (x ∷ xs) e = absurd (omega arith)
-
--- what the mark of v tells at the end
-pub mark_tells : (reads : List (List ℕ)) (v : ℕ) (s : Reached) → AreReached reads v s → length s.left.items ≡ 0 → (b : Bool) → slice_get s.marks.items v ≡ Some b → (b ≡ true → OnRing reads v) × (OnRing reads v → b ≡ true)
-mark_tells reads v s h none b is = (
-  λ e. marked_ring reads v s h (no_length s.left.items none) (is ∙ ap (λ (x : Bool). let r : Option Bool = Some x in r) e),
-  λ on. some_is b true (sym is ∙ ring_marked reads v s h (no_length s.left.items none) on),
-)
-
--- what a path leads to is one of the graph
-pub leads_low : (reads : List (List ℕ)) → AreReads reads → (v : ℕ) (path : List ℕ) (w : ℕ) → LeadsTo reads v path w → w < length reads
-leads_low reads inside v [] w r = inside v w r
-leads_low reads inside v (u ∷ path) w r = leads_low reads inside u path w r.1

@@ -1,13 +1,13 @@
 -- How the search for an order goes on, and what it ends with.
-use Rattle.std.proofs.Common.{ℕ, suc, zero, ◌≡◌, ◌≢◌, ◌<◌, ◌≤◌, ◌+◌, ◌-◌, ◌⊎◌, List, [], ◌∷◌, ◌++◌, length, get_or, Option, Some, None, refl, sym, ap, subst, ◌∙◌, inl, inr, arith, cond, replicate, take, get_or-set_same, get_or-set_other}
+use Rattle.std.proofs.Common.{ℕ, suc, zero, ◌≡◌, ◌≢◌, ◌<◌, ◌≤◌, ◌+◌, ◌-◌, ◌⊎◌, List, [], ◌∷◌, ◌++◌, length, get_or, Option, Some, None, refl, sym, ap, subst, ◌∙◌, inl, inr, arith, cond, replicate, take}
 use Rattle.std.specs.Prelude.{Contains, slice_get, slice_set, slice_index_or}
 use Rattle.std.proofs.lemmas.Bool.{cases_eq}
 use Rattle.std.proofs.lemmas.Option.{get_or_from_slice_get}
 use Rattle.std.proofs.lemmas.List.{length-set, length-append, length-replicate}
 use Rattle.std.proofs.lemmas.List.Folds.{sum_by-replicate}
 use Rattle.std.proofs.lemmas.List.Sums.{sum_by-set, sum_by-le}
-use Rattle.act1_order.specs.Order.{Reads, AreReads, StandsBefore, IsOrder}
-use Rattle.act1_order.specs.Reach.{HasRing, DependsOn}
+use Rattle.act1_order.specs.Order.{Reads, AreReads, StandsBefore}
+use Rattle.act1_order.specs.Closing.{DependsOn, IsClosingOrder}
 use Rattle.act1_order.specs.Search.{is_new, news, HasState, IsNextRead, IsSearched, IsSearch, IsLater, IsStep, IsVisit}
 use Rattle.act1_order.specs.declared.search.Search.{Search}
 use Rattle.act1_order.specs.declared.search.State.{State}
@@ -39,6 +39,28 @@ news_written states v old new h =
     subst (λ (s : State). news (slice_set states v new) + cond (is_new s) 1 0 ≡ news states + cond (is_new new) 1 0) (get_or_from_slice_get states v old old h)
     (sum_by-set (λ (s : State). cond (is_new s) 1 0) states v new old (get_within states v old h))
 
+-- what was come to before a write of a state still is
+still_met : (states : List State) (v w : ℕ) (new : State) → v < length states → (new ≡ New → ⊥) → (HasState states w New → ⊥) → HasState (slice_set states v new) w New → ⊥
+still_met states v w new low come met h = by (was states v w new New low h)
+  where
+    by : ((w ≡ v) × (new ≡ New)) ⊎ ((w ≢ v) × HasState states w New) → ⊥
+    by (inl x) = come x.1
+    by (inr y) = met y.1
+
+-- the path leads from each of its vertices to what its last one reads
+leads_on : (reads : List (List ℕ)) (path : List ℕ) (read : (i v w : ℕ) → slice_get path i ≡ Some v → slice_get path (i + 1) ≡ Some w → Reads reads v w) (v w : ℕ) → Reads reads v w
+    → (d i u : ℕ) → slice_get path i ≡ Some u → slice_get path (i + d) ≡ Some v → DependsOn reads u w
+leads_on reads path read v w r zero i u iu iv =
+    let same : i + 0 ≡ i = omega arith in
+    let e : u ≡ v = some_is u v (sym iu ∙ ap (slice_get path) (sym same) ∙ iv) in
+    record { path = []; leads = subst (λ (t : ℕ). Reads reads t w) (sym e) r }
+leads_on reads path read v w r (suc d) i u iu iv =
+    let within = get_within path (i + suc d) v iv in
+    let next = get_in path (i + 1) (omega arith) in
+    let same : i + suc d ≡ i + 1 + d = omega arith in
+    let rest = leads_on reads path read v w r d (i + 1) next.0 next.1 (ap (slice_get path) (sym same) ∙ iv) in
+    record { path = next.0 ∷ rest.path; leads = (read i u next.0 iu next.1, rest.leads) }
+
 module _ (reads : List (List ℕ)) (states : List State) (passed path order : List ℕ) (h : IsSearched reads states passed path order) where
   reached_open : (v : ℕ) → HasState states v New → (i a : ℕ) → slice_get path i ≡ Some a → v ≡ a → ⊥
   reached_open v fresh i a x same = let e = two_states states v New Open fresh (subst (λ (u : ℕ). HasState states u Open) (sym same) (h.path_open i a x)) in cc
@@ -48,7 +70,7 @@ module _ (reads : List (List ℕ)) (states : List State) (passed path order : Li
   opened v fresh last = record {
     all = length-set states v Open ∙ h.all;
     passed_all = h.passed_all;
-    passed_placed = λ u k w low is. kept states v w New Placed Open fresh (h.passed_placed u k w low is) (λ e. cc);
+    passed_met = λ u k w under is. still_met states v w Open low (λ e. cc) (h.passed_met u k w under is);
     path_reads = λ i a b ia ib. reads_by i a b (get_cases path v a i ia) (get_cases path v b (i + 1) ib);
     path_open = λ i a ia. open_by a (get_cases path v a i ia);
     open_path = λ a st. path_by a (was states v a Open Open low st);
@@ -56,7 +78,8 @@ module _ (reads : List (List ℕ)) (states : List State) (passed path order : Li
     order_placed = λ p a is. kept states v a New Placed Open fresh (h.order_placed p a is) (λ e. cc);
     placed_order = λ a st. order_by a (was states v a Open Placed low st);
     order_once = h.order_once;
-    after = h.after;
+    met = λ p a w is r. still_met states v w Open low (λ e. cc) (h.met p a w is r);
+    back = h.back;
     one_each = let one = h.one_each in let more = news_written states v New Open fresh in omega (arith, length-append path (v ∷ []));
   }
     where
@@ -87,39 +110,14 @@ module _ (reads : List (List ℕ)) (states : List State) (passed path order : Li
       order_by a (inl y) = let e = y.1 in cc
       order_by a (inr y) = h.placed_order a y.1
 
-  -- so many of the first reads of a vertex are placed
-  pub moved : (v at : ℕ) → v < length reads → ((k w : ℕ) → k < at → slice_get (slice_index_or reads v []) k ≡ Some w → HasState states w Placed) → IsSearched reads states (slice_set passed v at) path order
-  moved v at low placed = record {
-    all = h.all;
-    passed_all = length-set passed v at ∙ h.passed_all;
-    passed_placed = λ u k w under is. placed_by u k w under is (cases_eq u v);
-    path_reads = h.path_reads;
-    path_open = h.path_open;
-    open_path = h.open_path;
-    path_once = h.path_once;
-    order_placed = h.order_placed;
-    placed_order = h.placed_order;
-    order_once = h.order_once;
-    after = h.after;
-    one_each = h.one_each;
-  }
-    where
-      placed_by : (u k w : ℕ) → k < slice_index_or (slice_set passed v at) u 0 → slice_get (slice_index_or reads u []) k ≡ Some w → (u ≡ v) ⊎ (u ≢ v) → HasState states w Placed
-      placed_by u k w under is (inl e) =
-          let long = h.passed_all in
-          let there : slice_index_or (slice_set passed v at) u 0 ≡ at = ap (λ (i : ℕ). slice_index_or (slice_set passed v at) i 0) e ∙ get_or-set_same passed v at 0 (omega arith) in
-          placed k w (omega arith) (subst (λ (i : ℕ). slice_get (slice_index_or reads i []) k ≡ Some w) e is)
-      placed_by u k w under is (inr apart) =
-          let there = get_or-set_other passed v u at 0 apart in
-          h.passed_placed u k w (omega arith) is
-
-  -- where all are placed, the search has an order
-  pub ordered : path ≡ [] → ((v : ℕ) → v < length reads → HasState states v Placed) → IsOrder reads order
+  -- where all are placed, the order is whole
+  pub ordered : path ≡ [] → ((v : ℕ) → v < length reads → HasState states v Placed) → IsClosingOrder reads order
   ordered empty placed = record {
     all = let one = h.one_each in let none = no_news in omega (arith, ap (λ (vs : List ℕ). length vs) empty);
     inside = λ p v is. let low = get_within states v Placed (h.order_placed p v is) in let all = h.all in omega arith;
     once = h.order_once;
-    after = h.after;
+    there = λ v low. h.placed_order v (placed v low);
+    back = h.back;
   }
     where
       no_news : news states ≡ 0
@@ -129,13 +127,13 @@ module _ (reads : List (List ℕ)) (states : List State) (passed path order : Li
           (λ k d low. let e = get_or_from_slice_get states k Placed d (placed k (omega arith)) in subst (λ (s : State). cond (is_new s) 1 0 ≤ 0) (sym e) (omega arith)) in
           omega arith
 
--- the last vertex of the path is placed, where all that it reads are
-pub closed : (reads : List (List ℕ)) (states : List State) (passed front order : List ℕ) (v : ℕ) → IsSearched reads states passed (front ++ v ∷ []) order
-    → ((w : ℕ) → Reads reads v w → HasState states w Placed) → IsSearched reads (slice_set states v Placed) passed front (order ++ v ∷ [])
-closed reads states passed front order v h ready = record {
+-- the last vertex of the path is placed, where none that it reads is new
+pub closed : (reads : List (List ℕ)) (states : List State) (passed front order : List ℕ) (v : ℕ) → AreReads reads → IsSearched reads states passed (front ++ v ∷ []) order
+    → ((w : ℕ) → Reads reads v w → HasState states w New → ⊥) → IsSearched reads (slice_set states v Placed) passed front (order ++ v ∷ [])
+closed reads states passed front order v inside h ready = record {
   all = length-set states v Placed ∙ h.all;
   passed_all = h.passed_all;
-  passed_placed = λ u k w under is. keep w (h.passed_placed u k w under is);
+  passed_met = λ u k w under is. still w (h.passed_met u k w under is);
   path_reads = λ i a b ia ib. h.path_reads i a b (get_more front v a i ia) (get_more front v b (i + 1) ib);
   path_open = λ i a ia. get_unwritten states v a Placed (apart i a ia) ∙ h.path_open i a (get_more front v a i ia);
   open_path = λ a st. path_by a (was states v a Placed Open low st);
@@ -143,7 +141,8 @@ closed reads states passed front order v h ready = record {
   order_placed = λ p a is. placed_by a (get_cases order v a p is);
   placed_order = λ a st. order_by a (was states v a Placed Placed low st);
   order_once = λ p q a pa qa. once_by a (get_cases order v a p pa) (get_cases order v a q qa);
-  after = λ p a w is r. after_by p a w (get_cases order v a p is) r;
+  met = λ p a w is r. still w (met_by p a w (get_cases order v a p is) r);
+  back = λ p q a w x is r later ix. back_by p q a w x (get_cases order v a p is) r later (get_cases order v x q ix);
   one_each = let one = h.one_each in let same = news_written states v Open Placed is_open in omega (arith, length-append front (v ∷ []), length-append order (v ∷ []));
 }
   where
@@ -190,12 +189,55 @@ closed reads states passed front order v h ready = record {
     once_by {p} {q} a (inr x) (inl y) = absurd (unplaced q a y x.1)
     once_by a (inr x) (inr y) = x.0 ∙ sym y.0
 
-    after_by : (p a w : ℕ) → (slice_get order p ≡ Some a) ⊎ ((p ≡ length order) × (v ≡ a)) → Reads reads a w → StandsBefore (order ++ v ∷ []) p w
-    after_by p a w (inl x) r = let s = h.after p a w x r in record { place = s.place; before = s.before; there = get_more order v w s.place s.there }
-    after_by p a w (inr y) r =
-        let q = place_of order w (h.placed_order w (ready w (subst (λ (u : ℕ). Reads reads u w) (sym y.1) r))) in
+    still : (w : ℕ) → (HasState states w New → ⊥) → HasState (slice_set states v Placed) w New → ⊥
+    still w met = still_met states v w Placed low (λ e. cc) met
+
+    met_by : (p a w : ℕ) → (slice_get order p ≡ Some a) ⊎ ((p ≡ length order) × (v ≡ a)) → Reads reads a w → HasState states w New → ⊥
+    met_by p a w (inl x) r = h.met p a w x r
+    met_by p a w (inr y) r = ready w (subst (λ (u : ℕ). Reads reads u w) (sym y.1) r)
+
+    -- each vertex of the path leads to the last one
+    leads_to_last : (i u : ℕ) → slice_get front i ≡ Some u → DependsOn reads u v
+    leads_to_last i u iu =
+        let within = get_within front i u iu in
+        let t = get_in front (length front - 1) (omega arith) in
+        let next : length front ≡ length front - 1 + 1 = omega arith in
+        let same : length front - 1 ≡ i + (length front - 1 - i) = omega arith in
+        let tv = get_more front v t.0 (length front - 1) t.1 in
+        let r = h.path_reads (length front - 1) t.0 v tv (ap (slice_get (front ++ v ∷ [])) (sym next) ∙ top) in
+        leads_on reads (front ++ v ∷ []) h.path_reads t.0 v r (length front - 1 - i) i u (get_more front v u i iu) (ap (slice_get (front ++ v ∷ [])) (sym same) ∙ tv)
+
+    last_place : (w : ℕ) → v ≡ w → StandsBefore (order ++ v ∷ []) (length order + 1) w
+    last_place w e = record { place = length order; before = omega arith; there = subst (λ (u : ℕ). slice_get (order ++ v ∷ []) (length order) ≡ Some u) e (get_last order v (length order) refl) }
+
+    path_back : {i : ℕ} (w : ℕ) → (slice_get front i ≡ Some w) ⊎ ((i ≡ length front) × (v ≡ w)) → StandsBefore (order ++ v ∷ []) (length order + 1) w ⊎ DependsOn reads w v
+    path_back {i} w (inl x) = inr (leads_to_last i w x)
+    path_back w (inr y) = inl (last_place w y.1)
+
+    state_back : (w : ℕ) → (HasState states w New → ⊥) → (s : State) → HasState states w s → StandsBefore (order ++ v ∷ []) (length order + 1) w ⊎ DependsOn reads w v
+    state_back w met New st = absurd (met st)
+    state_back w met Open st = let p = place_of (front ++ v ∷ []) w (h.open_path w st) in path_back w (get_cases front v w p.0 p.1)
+    state_back w met Placed st =
+        let q = place_of order w (h.placed_order w st) in
         let within = get_within order q.0 w q.1 in
-        record { place = q.0; before = omega (arith, y.0); there = get_more order v w q.0 q.1 }
+        inl (record { place = q.0; before = omega arith; there = get_more order v w q.0 q.1 })
+
+    -- what was come to stands before the last vertex, is it, or leads to it
+    last_back : (w : ℕ) → w < length reads → (HasState states w New → ⊥) → StandsBefore (order ++ v ∷ []) (length order + 1) w ⊎ DependsOn reads w v
+    last_back w inside_w met = let all = h.all in let s = get_in states w (omega arith) in state_back w met s.0 s.1
+
+    old_back : (q w x : ℕ) → StandsBefore order (q + 1) w ⊎ DependsOn reads w x → StandsBefore (order ++ v ∷ []) (q + 1) w ⊎ DependsOn reads w x
+    old_back q w x (inl s) = inl (record { place = s.place; before = s.before; there = get_more order v w s.place s.there })
+    old_back q w x (inr d) = inr d
+
+    back_by : (p q a w x : ℕ) → (slice_get order p ≡ Some a) ⊎ ((p ≡ length order) × (v ≡ a)) → Reads reads a w → p ≤ q → (slice_get order q ≡ Some x) ⊎ ((q ≡ length order) × (v ≡ x))
+        → StandsBefore (order ++ v ∷ []) (q + 1) w ⊎ DependsOn reads w x
+    back_by p q a w x (inl ia) r later (inl ix) = old_back q w x (h.back p q a w x ia r later ix)
+    back_by p q a w x (inr ya) r later (inl ix) = let within = get_within order q x ix in absurd (omega (arith, ya.0))
+    back_by p q a w x is r later (inr yx) =
+        subst (λ (u : ℕ). StandsBefore (order ++ v ∷ []) (q + 1) w ⊎ DependsOn reads w u) yx.1
+        (subst (λ (n : ℕ). StandsBefore (order ++ v ∷ []) (n + 1) w ⊎ DependsOn reads w v) (sym yx.0)
+        (last_back w (inside a w r) (met_by p a w is r)))
 
 abbrev none_passed : ℕ → List ℕ
 none_passed n = replicate n 0
@@ -205,7 +247,7 @@ pub nothing_searched : (reads : List (List ℕ)) (n : ℕ) → n ≡ length read
 nothing_searched reads n e = record {
   all = length-replicate n New ∙ e;
   passed_all = length-replicate n 0 ∙ e;
-  passed_placed = λ v k w under is. never n v k under;
+  passed_met = λ v k w under is. never n v k under;
   path_reads = λ i v w iv iw. cc;
   path_open = λ i v iv. cc;
   open_path = λ v st. absurd (all_new n v Open st (λ same. cc));
@@ -213,7 +255,8 @@ nothing_searched reads n e = record {
   order_placed = λ p v is. cc;
   placed_order = λ v st. absurd (all_new n v Placed st (λ same. cc));
   order_once = λ p q v pv qv. cc;
-  after = λ p v w is r. cc;
+  met = λ p v w is r. cc;
+  back = λ p q v w x is r later ix. cc;
   one_each = let all = sum_by-replicate (λ (s : State). cond (is_new s) 1 0) n New in omega (arith, all, e);
 }
   where
@@ -234,39 +277,15 @@ nothing_searched reads n e = record {
     all_new (suc n) zero s st apart = apart (some_is New s st)
     all_new (suc n) (suc v) s st apart = all_new n v s st apart
 
--- the path leads from each of its vertices to what its last one reads
-leads_on : (reads : List (List ℕ)) (path : List ℕ) (read : (i v w : ℕ) → slice_get path i ≡ Some v → slice_get path (i + 1) ≡ Some w → Reads reads v w) (v w : ℕ) → Reads reads v w
-    → (d i u : ℕ) → slice_get path i ≡ Some u → slice_get path (i + d) ≡ Some v → DependsOn reads u w
-leads_on reads path read v w r zero i u iu iv =
-    let same : i + 0 ≡ i = omega arith in
-    let e : u ≡ v = some_is u v (sym iu ∙ ap (slice_get path) (sym same) ∙ iv) in
-    record { path = []; leads = subst (λ (t : ℕ). Reads reads t w) (sym e) r }
-leads_on reads path read v w r (suc d) i u iu iv =
-    let within = get_within path (i + suc d) v iv in
-    let next = get_in path (i + 1) (omega arith) in
-    let same : i + suc d ≡ i + 1 + d = omega arith in
-    let rest = leads_on reads path read v w r d (i + 1) next.0 next.1 (ap (slice_get path) (sym same) ∙ iv) in
-    record { path = next.0 ∷ rest.path; leads = (read i u next.0 iu next.1, rest.leads) }
-
--- the last vertex of the path reads one of the path
-pub ring_met : (reads : List (List ℕ)) (states : List State) (passed path order : List ℕ) → IsSearched reads states passed path order
-    → (i v w : ℕ) → slice_get path i ≡ Some v → i + 1 ≡ length path → Reads reads v w → HasState states w Open → HasRing reads
-ring_met reads states passed path order h i v w iv last r open_w =
-    let p = place_of path w (h.open_path w open_w) in
-    let within = get_within path p.0 w p.1 in
-    let same : p.0 + (i - p.0) ≡ i = omega arith in
-    let on = leads_on reads path h.path_reads v w r (i - p.0) p.0 w p.1 (ap (slice_get path) same ∙ iv) in
-    record { vertex = w; ring = record { path = on.path; leads = on.leads } }
-
--- where the reads up to a place are placed, and the one there isn't, that one is next
-pub next_is : (reads : List (List ℕ)) (states : List State) (v at : ℕ) → ((k w : ℕ) → k < at → slice_get (slice_index_or reads v []) k ≡ Some w → HasState states w Placed)
-    → ((w : ℕ) → slice_get (slice_index_or reads v []) at ≡ Some w → HasState states w Placed → ⊥) → (next : Option ℕ) → next ≡ slice_get (slice_index_or reads v []) at → IsNextRead reads states v next
-next_is reads states v at placed unplaced (Some w) e = (contains_at (slice_index_or reads v []) at w (sym e), unplaced w (sym e))
-next_is reads states v at placed unplaced None e = λ w r.
+-- where the reads up to a place aren't new, and the one there is, that one is next
+pub next_is : (reads : List (List ℕ)) (states : List State) (v at : ℕ) → ((k w : ℕ) → k < at → slice_get (slice_index_or reads v []) k ≡ Some w → HasState states w New → ⊥)
+    → ((w : ℕ) → slice_get (slice_index_or reads v []) at ≡ Some w → HasState states w New) → (next : Option ℕ) → next ≡ slice_get (slice_index_or reads v []) at → IsNextRead reads states v next
+next_is reads states v at met fresh (Some w) e = (contains_at (slice_index_or reads v []) at w (sym e), fresh w (sym e))
+next_is reads states v at met fresh None e = λ w r.
     let p = place_of (slice_index_or reads v []) w r in
     let past = none_within (slice_index_or reads v []) at (sym e) in
     let within = get_within (slice_index_or reads v []) p.0 w p.1 in
-    placed p.0 w (omega arith) p.1
+    met p.0 w (omega arith) p.1
   where
     none_within : (xs : List ℕ) (i : ℕ) → slice_get xs i ≡ None → length xs ≤ i
     none_within [] i h = omega arith
@@ -315,19 +334,19 @@ later_set states v old new st unplaced come = record {
     by w (inr y) = y.1
 
 -- the last vertex of the path is placed
-pub placed_step : (reads : List (List ℕ)) (old mid new : Search) (v : ℕ) → IsSearch reads mid → mid.states.items ≡ old.states.items → mid.path.items ≡ old.path.items
-    → slice_get old.path.items (length old.path.items - 1) ≡ Some v → ((w : ℕ) → Reads reads v w → HasState old.states.items w Placed)
+pub placed_step : (reads : List (List ℕ)) (old mid new : Search) (v : ℕ) → AreReads reads → IsSearch reads mid → mid.states.items ≡ old.states.items → mid.path.items ≡ old.path.items
+    → slice_get old.path.items (length old.path.items - 1) ≡ Some v → ((w : ℕ) → Reads reads v w → HasState old.states.items w New → ⊥)
     → new.states.items ≡ slice_set mid.states.items v Placed → new.passed.items ≡ mid.passed.items → new.path.items ≡ take (length mid.path.items - 1) mid.path.items → new.order.items ≡ mid.order.items ++ v ∷ []
     → IsStep reads old new
-placed_step reads old mid new v h same_states same_path last ready states passed path order =
+placed_step reads old mid new v inside h same_states same_path last ready states passed path order =
     let top : slice_get mid.path.items (length mid.path.items - 1) ≡ Some v = subst (λ (us : List ℕ). slice_get us (length us - 1) ≡ Some v) (sym same_path) last in
     let place = some_place mid.path.items v top in
     let split = last_split mid.path.items (length mid.path.items - 1) v place top in
     let less = short mid.path.items (length mid.path.items - 1) place in
     let is_open = h.path_open (length mid.path.items - 1) v top in
-    let next = closed reads mid.states.items mid.passed.items (take (length mid.path.items - 1) mid.path.items) mid.order.items v
+    let next = closed reads mid.states.items mid.passed.items (take (length mid.path.items - 1) mid.path.items) mid.order.items v inside
     (subst (λ (us : List ℕ). IsSearched reads mid.states.items mid.passed.items us mid.order.items) split h)
-    (λ w r. subst (λ (ss : List State). HasState ss w Placed) (sym same_states) (ready w r)) in
+    (λ w r st. ready w r (subst (λ (ss : List State). HasState ss w New) same_states st)) in
     let few = news_written mid.states.items v Open Placed is_open in
     record {
       search = same_search reads _ new.states.items _ new.passed.items _ new.path.items _ new.order.items states passed path order next;
@@ -345,16 +364,14 @@ new_left states v low unplaced unopened = let s = get_in states v low in by s.0 
     by Placed st = absurd (unplaced st)
 
 -- the path goes on to a read of its last vertex
-pub opened_step : (reads : List (List ℕ)) (old mid new : Search) (v w : ℕ) → AreReads reads → IsSearch reads mid → mid.states.items ≡ old.states.items → mid.path.items ≡ old.path.items
-    → slice_get old.path.items (length old.path.items - 1) ≡ Some v → Reads reads v w → (HasState old.states.items w Placed → ⊥) → (HasState mid.states.items w Open → ⊥)
+pub opened_step : (reads : List (List ℕ)) (old mid new : Search) (v w : ℕ) → IsSearch reads mid → mid.states.items ≡ old.states.items → mid.path.items ≡ old.path.items
+    → slice_get old.path.items (length old.path.items - 1) ≡ Some v → Reads reads v w → HasState old.states.items w New
     → new.states.items ≡ slice_set mid.states.items w Open → new.passed.items ≡ mid.passed.items → new.path.items ≡ mid.path.items ++ w ∷ [] → new.order.items ≡ mid.order.items
     → IsStep reads old new
-opened_step reads old mid new v w inside h same_states same_path last r unplaced unopened states passed path order =
+opened_step reads old mid new v w h same_states same_path last r is_new_w states passed path order =
     let top : slice_get mid.path.items (length mid.path.items - 1) ≡ Some v = subst (λ (us : List ℕ). slice_get us (length us - 1) ≡ Some v) (sym same_path) last in
     let place = some_place mid.path.items v top in
-    let low = inside v w r in
-    let all = h.all in
-    let fresh = new_left mid.states.items w (omega arith) (λ st. unplaced (subst (λ (ss : List State). HasState ss w Placed) same_states st)) unopened in
+    let fresh = subst (λ (ss : List State). HasState ss w New) (sym same_states) is_new_w in
     let next = opened reads mid.states.items mid.passed.items mid.path.items mid.order.items h w fresh
     (λ i u iu e. let same : i ≡ length mid.path.items - 1 = omega arith in
     subst (λ (t : ℕ). Reads reads t w) (some_is v u (sym top ∙ sym (ap (slice_get mid.path.items) same) ∙ iu)) r) in
@@ -364,19 +381,6 @@ opened_step reads old mid new v w inside h same_states same_path last r unplaced
       later = subst (λ (ss : List State). IsLater ss new.states.items) same_states (subst (λ (ss : List State). IsLater mid.states.items ss) (sym states) (later_set mid.states.items w New Open fresh (λ e. cc) (λ e. cc)));
       nearer = let a = ap news states in let b = ap news same_states in let d = ap (λ (us : List ℕ). length us) path in let e = ap (λ (us : List ℕ). length us) same_path in omega (arith, length-append mid.path.items (w ∷ []));
     }
-
--- a read of the last vertex of the path is open
-pub ring_step : (reads : List (List ℕ)) (old mid : Search) (v w : ℕ) → IsSearch reads mid → mid.path.items ≡ old.path.items
-    → slice_get old.path.items (length old.path.items - 1) ≡ Some v → Reads reads v w → HasState mid.states.items w Open → HasRing reads
-ring_step reads old mid v w h same_path last r open_w =
-    let top : slice_get mid.path.items (length mid.path.items - 1) ≡ Some v = subst (λ (us : List ℕ). slice_get us (length us - 1) ≡ Some v) (sym same_path) last in
-    ring_met reads mid.states.items mid.passed.items mid.path.items mid.order.items h (length mid.path.items - 1) v w top (some_place mid.path.items v top) r open_w
-
--- what a state that was read tells
-pub state_read : (states : List State) (v i : ℕ) (x s : State) → i ≡ v → v < length states → x ≡ get_or states i x → (x ≡ s → HasState states v s) × (HasState states v s → x ≡ s)
-state_read states v i x s e low is =
-    let there = get_read states v x low (is ∙ ap (λ (j : ℕ). get_or states j x) e) in
-    (λ same. subst (λ (t : State). HasState states v t) same there, λ st. two_states states v x s there st)
 
 none_open : (reads : List (List ℕ)) (s : Search) → IsSearch reads s → s.path.items ≡ [] → (v : ℕ) → HasState s.states.items v Open → ⊥
 none_open reads s h empty v st = let on = subst (λ (us : List ℕ). Contains us v) empty (h.open_path v st) in absurd (omega (arith, on.1))
@@ -457,5 +461,5 @@ none_placed reads s n e states passed path order = record {
   placed = λ v low. absurd (omega arith);
 }
 
-pub all_placed : (reads : List (List ℕ)) (n : ℕ) (s : Search) → n ≡ length reads → ArePlaced reads n s → IsOrder reads s.order.items
+pub all_placed : (reads : List (List ℕ)) (n : ℕ) (s : Search) → n ≡ length reads → ArePlaced reads n s → IsClosingOrder reads s.order.items
 all_placed reads n s e h = ordered reads s.states.items s.passed.items s.path.items s.order.items h.search h.none_open (λ v low. h.placed v (omega arith))

@@ -1,17 +1,8 @@
--- What a vertex depends on, and what is known of it in the middle of a search.
-use Rattle.std.specs.Prelude.{ℕ, ◌≡◌, List, ◌+◌, Bool, true, not, Contains, Some, slice_get, length, count_by, ◌⊎◌}
-use Rattle.act1_order.specs.Order.{Reads, LeadsTo, OnRing}
+-- What leads to some vertices, and what is known of it in the middle of a search.
+use Rattle.std.specs.Prelude.{ℕ, ◌≡◌, List, [], ◌+◌, ◌<◌, ◌≤◌, Bool, true, false, not, min, Contains, Option, Some, None, slice_get, length, count_by, ◌⊎◌}
+use Rattle.act1_order.specs.Order.{Reads, OnRing}
+use Rattle.act1_order.specs.Closing.{LeadsFrom}
 use Rattle.act1_order.specs.declared.reach.Reached.{Reached}
-
--- v reads w, or one that depends on w
-pub record DependsOn (reads : List (List ℕ)) (v w : ℕ) : Type 0 where
-  pub path : List ℕ
-  pub leads : LeadsTo reads v path w
-
--- some vertex depends on itself
-pub record HasRing (reads : List (List ℕ)) : Type 0 where
-  pub vertex : ℕ
-  pub ring : OnRing reads vertex
 
 -- the vertex has a mark
 abbrev pub IsMarked : List Bool → ℕ → Type 0
@@ -31,10 +22,32 @@ pub record Marks (vertices : List ℕ) (old new : Reached) : Type 0 where
   pub left_marked : (u : ℕ) → Contains new.left.items u → Contains old.left.items u ⊎ IsMarked new.marks.items u
   pub same : unmarked new.marks.items + length new.left.items ≡ unmarked old.marks.items + length old.left.items
 
--- v depends on each marked vertex; what v reads is marked, and what a marked vertex reads is too, unless that one is still to be looked at
-pub record AreReached (reads : List (List ℕ)) (v : ℕ) (s : Reached) : Type 0 where
+-- some of these vertices is marked
+pub record HasMarked (marks : List Bool) (vertices : List ℕ) : Type 0 where
+  pub vertex : ℕ
+  pub there : Contains vertices vertex
+  pub marked : IsMarked marks vertex
+
+-- each vertex at p or later is marked, and each marked one leads to one of these; what reads a marked vertex is marked, unless that one is still to be looked at
+pub record AreReached (reads : List (List ℕ)) (order : List ℕ) (p : ℕ) (s : Reached) : Type 0 where
   pub all : length s.marks.items ≡ length reads
-  pub reached : (w : ℕ) → IsMarked s.marks.items w → DependsOn reads v w
-  pub first : (w : ℕ) → Reads reads v w → IsMarked s.marks.items w
+  pub leads : (u : ℕ) → IsMarked s.marks.items u → LeadsFrom reads order p u
+  pub late : (q z : ℕ) → p ≤ q → slice_get order q ≡ Some z → IsMarked s.marks.items z
   pub left_marked : (u : ℕ) → Contains s.left.items u → IsMarked s.marks.items u
-  pub closed : (u w : ℕ) → IsMarked s.marks.items u → Reads reads u w → IsMarked s.marks.items w ⊎ Contains s.left.items u
+  pub closed : (u w : ℕ) → IsMarked s.marks.items w → Reads reads u w → IsMarked s.marks.items u ⊎ Contains s.left.items w
+
+-- the marked vertices are those that lead to one at p or later
+pub record AreMarkedFrom (reads : List (List ℕ)) (order : List ℕ) (p : ℕ) (s : Reached) : Type 0 where
+  pub reached : AreReached reads order p s
+  pub none_left : s.left.items ≡ []
+
+-- the least of those found and one more, if that one lies on a ring
+abbrev pub least_with : Option ℕ → ℕ → Bool → Option ℕ
+least_with found v false = found
+least_with None v true = Some v
+least_with (Some first) v true = Some (min first v)
+
+-- the least vertex on a ring of those at p or later, or none
+abbrev pub IsLeastFrom : List (List ℕ) → List ℕ → ℕ → Option ℕ → Type 0
+IsLeastFrom reads order p None = (q z : ℕ) → p ≤ q → slice_get order q ≡ Some z → OnRing reads z → ⊥
+IsLeastFrom reads order p (Some first) = (first < length reads) × OnRing reads first × ((q z : ℕ) → p ≤ q → slice_get order q ≡ Some z → OnRing reads z → first ≤ z)

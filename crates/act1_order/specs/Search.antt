@@ -1,7 +1,7 @@
 -- What is known in the middle of a search for an order.
 use Rattle.std.specs.Prelude.{ℕ, ◌≡◌, List, [], ◌+◌, ◌*◌, ◌<◌, Bool, true, false, Contains, Option, Some, None, slice_get, slice_index_or, length, count_by}
-use Rattle.act1_order.specs.Order.{Reads, StandsBefore}
-use Rattle.act1_order.specs.Reach.{HasRing}
+use Rattle.act1_order.specs.Order.{Reads}
+use Rattle.act1_order.specs.Closing.{ReadsBack}
 use Rattle.act1_order.specs.declared.search.State.{State}
 use Rattle.act1_order.specs.declared.search.State.TheVariants as state
 use Rattle.act1_order.specs.declared.search.Search.{Search}
@@ -20,11 +20,11 @@ news states = count_by is_new states
 abbrev pub HasState : List State → ℕ → State → Type 0
 HasState states v s = slice_get states v ≡ Some s
 
--- the open vertices are those of the path, once each, and each of them reads the next; the placed ones are those of the order, once each, and each stands after those that it reads; the first reads of each vertex, as many as are passed, are placed
+-- the open vertices are those of the path, once each, and each of them reads the next; the placed ones are those of the order, once each, and none that they read is new; nor are the first reads of each vertex, as many as are passed
 pub record IsSearched (reads : List (List ℕ)) (states : List State) (passed path order : List ℕ) : Type 0 where
   pub all : length states ≡ length reads
   pub passed_all : length passed ≡ length reads
-  pub passed_placed : (v k w : ℕ) → k < slice_index_or passed v 0 → slice_get (slice_index_or reads v []) k ≡ Some w → HasState states w state.Placed
+  pub passed_met : (v k w : ℕ) → k < slice_index_or passed v 0 → slice_get (slice_index_or reads v []) k ≡ Some w → HasState states w state.New → ⊥
   pub path_reads : (i v w : ℕ) → slice_get path i ≡ Some v → slice_get path (i + 1) ≡ Some w → Reads reads v w
   pub path_open : (i v : ℕ) → slice_get path i ≡ Some v → HasState states v state.Open
   pub open_path : (v : ℕ) → HasState states v state.Open → Contains path v
@@ -32,17 +32,18 @@ pub record IsSearched (reads : List (List ℕ)) (states : List State) (passed pa
   pub order_placed : (p v : ℕ) → slice_get order p ≡ Some v → HasState states v state.Placed
   pub placed_order : (v : ℕ) → HasState states v state.Placed → Contains order v
   pub order_once : (p q v : ℕ) → slice_get order p ≡ Some v → slice_get order q ≡ Some v → p ≡ q
-  pub after : (p v w : ℕ) → slice_get order p ≡ Some v → Reads reads v w → StandsBefore order p w
+  pub met : (p v w : ℕ) → slice_get order p ≡ Some v → Reads reads v w → HasState states w state.New → ⊥
+  pub back : ReadsBack reads order
   pub one_each : length order + length path + news states ≡ length reads
 
 -- the same, of a search
 abbrev pub IsSearch : List (List ℕ) → Search → Type 0
 IsSearch reads s = IsSearched reads s.states.items s.passed.items s.path.items s.order.items
 
--- a vertex that v reads and that isn't placed, or none where all are
+-- a new vertex that v reads, or none where none is new
 abbrev pub IsNextRead : List (List ℕ) → List State → ℕ → Option ℕ → Type 0
-IsNextRead reads states v (Some w) = Reads reads v w × (HasState states w state.Placed → ⊥)
-IsNextRead reads states v None = (w : ℕ) → Reads reads v w → HasState states w state.Placed
+IsNextRead reads states v (Some w) = Reads reads v w × HasState states w state.New
+IsNextRead reads states v None = (w : ℕ) → Reads reads v w → HasState states w state.New → ⊥
 
 -- how many steps there may be at most
 abbrev pub steps_left : Search → ℕ
@@ -65,13 +66,3 @@ pub record IsVisit (reads : List (List ℕ)) (root : ℕ) (old new : Search) : T
   pub later : IsLater old.states.items new.states.items
   pub none_open : new.path.items ≡ []
   pub root_placed : HasState new.states.items root state.Placed
-
--- the step was made, or a ring was met
-abbrev pub StepEnds : List (List ℕ) → Search → Search → Bool → Type 0
-StepEnds reads old new true = IsStep reads old new
-StepEnds reads old new false = HasRing reads
-
--- the search from a vertex is done, or a ring was met
-abbrev pub VisitEnds : List (List ℕ) → ℕ → Search → Search → Bool → Type 0
-VisitEnds reads root old new true = IsVisit reads root old new
-VisitEnds reads root old new false = HasRing reads

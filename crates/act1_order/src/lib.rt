@@ -6,7 +6,9 @@ mod graph;
 mod order;
 mod ordering;
 mod reach;
+mod readers;
 mod search;
+mod sorted;
 #[cfg(test)]
 mod tests;
 

@@ -1,13 +1,15 @@
-ghost use Rattle.std.specs.Prelude.{ℕ, ◌≡◌, ◌<◌, ◌↔◌, [], ◌∷◌, false, replicate, All, IsTrue, IfOk, OnOk, length, slice_get, Some};
+ghost use Rattle.std.specs.Prelude.{ℕ, ◌≡◌, ◌<◌, ◌+◌, ◌↔◌, [], ◌∷◌, false, replicate, All, IsTrue, IfOk, OnOk, length, slice_get, slice_index_or, Some};
 ghost use Rattle.act1_order.specs.Order.{AreReads, OnRing};
-ghost use Rattle.act1_order.specs.Reach.{Marks};
+ghost use Rattle.act1_order.specs.Closing.{IsClosingOrder};
+ghost use Rattle.act1_order.specs.Readers.{AreReaders};
+ghost use Rattle.act1_order.specs.Reach.{AreMarkedFrom, HasMarked, Marks};
 
 use crate::graph::reads_of;
 use act1_base::{Items, Memory};
 use std::alloc::Global;
 
-/// The vertices that a search has come to, which are marked, and those of them whose reads it hasn't
-/// looked at.
+/// The vertices that a search back from some vertices has come to, which are marked, and those of them
+/// whose readers it hasn't looked at.
 #[derive(Drop)]
 pub struct Reached {
     marks: Vec<bool>,
@@ -15,8 +17,8 @@ pub struct Reached {
 }
 
 impl Reached {
-    // A search that has come to none of so many vertices.
-    fn new(alloc: Global, vertices: usize) -> Result<Reached, Memory>
+    /// A search that has come to none of so many vertices.
+    pub fn new(alloc: Global, vertices: usize) -> Result<Reached, Memory>
         ensures { IfOk result (λ s. (s.marks.items ≡ replicate vertices false) × (s.left.items ≡ [])) }
     {
         Ok(Reached {
@@ -55,18 +57,43 @@ impl Reached {
         }
         Ok(())
     }
-}
 
-/// Whether a vertex lies on a ring. It takes time in proportion to the vertices and edges.
-pub fn is_on_ring(alloc: Global, reads: &[Items<u16>], vertex: u16) -> Result<bool, Memory>
-    requires inside { AreReads reads.now }
-    requires low { vertex < length reads.now }
-    ensures { IfOk result (λ on. IsTrue on ↔ OnRing reads.now vertex) }
-{
-    let mut reached = Reached::new(alloc, reads.len())?;
-    reached.mark_all(reads_of(reads, vertex))?;
-    while let Some(next) = reached.left.pop() {
-        reached.mark_all(reads_of(reads, next))?;
+    // Whether one of these vertices is marked.
+    fn has_marked(&self, vertices: &[u16]) -> bool
+        requires { All (λ vertex. vertex < length self.now.marks.items) vertices.now }
+        ensures { IsTrue result ↔ HasMarked self.now.marks.items vertices.now }
+    {
+        for vertex in vertices {
+            if self.is_marked(*vertex) {
+                return true;
+            }
+        }
+        false
     }
-    Ok(reached.is_marked(vertex))
+
+    /// Whether the vertex at a place of a closing order lies on a ring, where the marked vertices are
+    /// those that lead to one at a later place. From then on those that lead to it are marked too. It
+    /// lies on a ring exactly where it reads one that leads to it or to one at a later place.
+    pub fn is_on_ring(
+        &mut self,
+        reads: &[Items<u16>],
+        readers: &[Items<u16>],
+        order: &[u16],
+        at: usize,
+    ) -> Result<bool, Memory>
+        requires inside { AreReads reads.now }
+        requires readers { AreReaders reads.now readers.now }
+        requires order { IsClosingOrder reads.now order.now }
+        requires low { at < length order.now }
+        requires marked { AreMarkedFrom reads.now order.now (at + 1) self.old }
+        ensures marked { OnOk result (AreMarkedFrom reads.now order.now at self.new) }
+        ensures on { IfOk result (λ on. IsTrue on ↔ OnRing reads.now (slice_index_or order.now at 0)) }
+    {
+        let vertex = order[at];
+        self.mark(vertex)?;
+        while let Some(next) = self.left.pop() {
+            self.mark_all(reads_of(readers, next))?;
+        }
+        Ok(self.has_marked(reads_of(reads, vertex)))
+    }
 }

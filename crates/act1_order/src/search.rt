@@ -1,7 +1,7 @@
-ghost use Rattle.std.specs.Prelude.{ℕ, ◌≡◌, ◌≢◌, ◌<◌, ◌≤◌, ◌+◌, ◌-◌, ◌++◌, ◌∷◌, [], ◌↔◌, IsTrue, take, replicate, All, IfOk, OnOk, MatchOption, Some, length, slice_get, slice_set, slice_index_or};
-ghost use Rattle.act1_order.specs.Order.{AreReads, IsOrder, Reads};
-ghost use Rattle.act1_order.specs.Reach.{HasRing};
-ghost use Rattle.act1_order.specs.Search.{HasState, IsNextRead, IsSearch, StepEnds, VisitEnds, steps_left};
+ghost use Rattle.std.specs.Prelude.{ℕ, ◌≡◌, ◌<◌, ◌≤◌, ◌-◌, ◌++◌, ◌∷◌, [], ◌↔◌, IsTrue, take, replicate, All, IfOk, OnOk, Some, length, slice_get, slice_set};
+ghost use Rattle.act1_order.specs.Order.{AreReads};
+ghost use Rattle.act1_order.specs.Closing.{IsClosingOrder};
+ghost use Rattle.act1_order.specs.Search.{HasState, IsNextRead, IsSearch, IsStep, IsVisit};
 ghost use Rattle.act1_order.specs.declared.search.State.TheVariants as state;
 
 use crate::graph::reads_of;
@@ -19,9 +19,9 @@ pub enum State {
     Placed,
 }
 
-/// A search that goes from a vertex on to those that it reads, and places each after them. Of each
-/// vertex it keeps how many of its first reads it has passed since they are placed, so that it looks
-/// at each edge once.
+/// A search that goes from a vertex on to those that it reads, and places each after those that it went
+/// on to. Of each vertex it keeps how many of its first reads it has passed since it has come to them,
+/// so that it looks at each edge once.
 #[derive(Drop)]
 pub struct Search {
     states: Vec<State>,
@@ -30,15 +30,15 @@ pub struct Search {
     order: Vec<u16>,
 }
 
-// The place of the first read that isn't placed, where those before this place are.
-fn first_unplaced(states: &[State], reads: &[u16], from: usize) -> usize
+// The place of the first new read, where those before this place aren't new.
+fn first_new(states: &[State], reads: &[u16], from: usize) -> usize
     requires inside { All (λ w. w < length states.now) reads.now }
-    requires passed { (k w : ℕ) → k < from → slice_get reads.now k ≡ Some w → HasState states.now w state.Placed }
-    ensures passed { (k w : ℕ) → k < result → slice_get reads.now k ≡ Some w → HasState states.now w state.Placed }
-    ensures next { (w : ℕ) → slice_get reads.now result ≡ Some w → HasState states.now w state.Placed → ⊥ }
+    requires met { (k w : ℕ) → k < from → slice_get reads.now k ≡ Some w → HasState states.now w state.New → ⊥ }
+    ensures met { (k w : ℕ) → k < result → slice_get reads.now k ≡ Some w → HasState states.now w state.New → ⊥ }
+    ensures next { (w : ℕ) → slice_get reads.now result ≡ Some w → HasState states.now w state.New }
 {
     let mut at = from;
-    while at < reads.len() && has_state(states, reads[at], State::Placed) {
+    while at < reads.len() && !has_state(states, reads[at], State::New) {
         at += 1;
     }
     at
@@ -99,7 +99,7 @@ impl Search {
         Ok(())
     }
 
-    // The first read of a vertex that isn't placed, with the place where it stands noted.
+    // The first new read of a vertex, with the place where it stands noted.
     fn next_read(&mut self, reads: &[Items<u16>], vertex: u16) -> Option<u16>
         requires inside { AreReads reads.now }
         requires search { IsSearch reads.now self.old }
@@ -110,7 +110,7 @@ impl Search {
         ensures next { IsNextRead reads.now self.old.states.items vertex result }
     {
         let own = reads_of(reads, vertex);
-        let at = first_unplaced(&self.states, own, self.passed[usize::from(vertex)]);
+        let at = first_new(&self.states, own, self.passed[usize::from(vertex)]);
         self.passed[usize::from(vertex)] = at;
         read_at(own, at)
     }
@@ -122,63 +122,56 @@ impl Search {
         self.path.last().copied()
     }
 
-    // One step on from the last vertex of the path: to a read of it that isn't placed, or, where all are,
-    // to its own place. Whether it met no ring.
-    fn step(&mut self, reads: &[Items<u16>], vertex: u16) -> Result<bool, Memory>
+    // One step on from the last vertex of the path: to a new read of it, or, where none is new, to its
+    // own place.
+    fn step(&mut self, reads: &[Items<u16>], vertex: u16) -> Result<(), Memory>
         requires inside { AreReads reads.now }
         requires search { IsSearch reads.now self.old }
         requires last { slice_get self.old.path.items (length self.old.path.items - 1) ≡ Some vertex }
-        ensures { IfOk result (StepEnds reads.now self.old self.new) }
+        ensures { OnOk result (IsStep reads.now self.old self.new) }
     {
         match self.next_read(reads, vertex) {
             None => {
                 self.place(vertex)?;
-                Ok(true)
+                Ok(())
             }
             Some(next) => {
-                if has_state(&self.states, next, State::Open) {
-                    return Ok(false);
-                }
                 self.open(next)?;
-                Ok(true)
+                Ok(())
             }
         }
     }
 
-    // The search from a vertex on. Whether it met no ring.
-    fn visit(&mut self, reads: &[Items<u16>], root: u16) -> Result<bool, Memory>
+    // The search from a vertex on.
+    fn visit(&mut self, reads: &[Items<u16>], root: u16) -> Result<(), Memory>
         requires inside { AreReads reads.now }
         requires search { IsSearch reads.now self.old }
         requires none_open { self.old.path.items ≡ [] }
         requires low { root < length reads.now }
-        ensures { IfOk result (VisitEnds reads.now root self.old self.new) }
+        ensures { OnOk result (IsVisit reads.now root self.old self.new) }
     {
         if has_state(&self.states, root, State::Placed) {
-            return Ok(true);
+            return Ok(());
         }
         self.open(root)?;
         while let Some(vertex) = self.last() {
-            if !self.step(reads, vertex)? {
-                return Ok(false);
-            }
+            self.step(reads, vertex)?;
         }
-        Ok(true)
+        Ok(())
     }
 }
 
-/// An order of the vertices in which each stands after those that it reads, or none where some vertex
-/// lies on a ring. It takes time in proportion to the vertices and edges, and memory in proportion to
-/// the vertices.
-pub fn order_of(alloc: Global, reads: &[Items<u16>]) -> Result<Option<Items<u16>>, Memory>
+/// The order in which a search closes the vertices: each stands after those that it reads, unless one
+/// of these depends on it. It takes time in proportion to the vertices and edges, and memory in
+/// proportion to the vertices.
+pub fn order_of(alloc: Global, reads: &[Items<u16>]) -> Result<Items<u16>, Memory>
     requires few { length reads.now ≤ 65535 }
     requires inside { AreReads reads.now }
-    ensures { IfOk result (λ order. MatchOption order (HasRing reads.now) (IsOrder reads.now)) }
+    ensures { IfOk result (IsClosingOrder reads.now) }
 {
     let mut search = Search::new(alloc, reads.len())?;
     for vertex in 0..reads.len() {
-        if !search.visit(reads, vertex as u16)? {
-            return Ok(None);
-        }
+        search.visit(reads, vertex as u16)?;
     }
-    Ok(Some(Items::from_vec(search.order)))
+    Ok(Items::from_vec(search.order))
 }

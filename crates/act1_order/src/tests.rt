@@ -65,3 +65,47 @@ fn the_least_on_a_ring_is_found(rt: HostRuntime) -> Result<(), Fail> {
     assert!(rt; has_ring(&found(alloc, &[&[4], &[2], &[1], &[4], &[3]])?, 1));
     Ok(())
 }
+
+// Two rings; one behind a chain; one that reads itself; one that the first vertex doesn't lead to; one
+// within another; pairs in a chain; one that is entered in its middle; one between chains; one that is
+// closed by its first vertex alone; and vertices between two rings, which are on neither.
+#[test]
+fn rings_of_many_forms_are_found(rt: HostRuntime) -> Result<(), Fail> {
+    let alloc = rt.alloc();
+    assert!(rt; has_ring(&found(alloc, &[&[1], &[0], &[3], &[2]])?, 0));
+    assert!(rt; has_ring(&found(alloc, &[&[1], &[2], &[3], &[4], &[3]])?, 3));
+    assert!(rt; has_ring(&found(alloc, &[&[1], &[1]])?, 1));
+    assert!(rt; has_ring(&found(alloc, &[&[], &[2], &[3], &[1, 0]])?, 1));
+    assert!(rt;
+        has_ring(
+            &found(alloc, &[&[1], &[2, 4], &[3], &[4], &[5], &[4, 3]])?,
+            3
+        )
+    );
+    assert!(rt; has_ring(&found(alloc, &[&[1], &[2], &[1, 3], &[4], &[3]])?, 1));
+    assert!(rt; has_ring(&found(alloc, &[&[1, 5], &[2], &[3], &[4], &[2], &[]])?, 2));
+    assert!(rt;
+        has_ring(
+            &found(alloc, &[&[], &[0, 2], &[0], &[4, 1], &[5], &[6, 3], &[2]])?,
+            3
+        )
+    );
+    assert!(rt; has_ring(&found(alloc, &[&[3], &[3], &[3], &[4], &[2]])?, 2));
+    assert!(rt;
+        has_ring(
+            &found(
+                alloc,
+                &[&[6], &[0], &[1], &[2, 4], &[5], &[], &[5, 7], &[6]]
+            )?,
+            6
+        )
+    );
+    assert!(rt;
+        has_ring(
+            &found(alloc, &[&[1, 2], &[3], &[3], &[4], &[5], &[6], &[5]])?,
+            5
+        )
+    );
+    assert!(rt; has_ring(&found(alloc, &[&[2], &[3], &[4, 0], &[1, 2], &[]])?, 0));
+    Ok(())
+}

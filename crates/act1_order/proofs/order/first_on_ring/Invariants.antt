@@ -1,7 +1,10 @@
-use Rattle.std.proofs.Common.{ℕ, ◌<◌}
-use Rattle.act1_order.specs.Order.{OnRing}
+use Rattle.std.proofs.Common.{◌≤◌, length}
+use Rattle.act1_order.specs.Reach.{AreMarkedFrom, IsLeastFrom}
 use Rattle.act1_order.proofs.order.first_on_ring.Given as goal
 
--- none of the vertices so far lies on a ring
-abbrev pub invariant-loop-vertex : goal.invariant-loop-vertex
-invariant-loop-vertex l = (w : ℕ) → w < l.vertex → OnRing l.reads w → ⊥
+-- the vertices from this place on were looked at
+abbrev pub invariant-loop-at : goal.invariant-loop-at
+invariant-loop-at l = (l.at ≤ length l.order) × AreMarkedFrom l.reads l.order l.at l.reached × IsLeastFrom l.reads l.order l.at l.first
+
+abbrev pub decreases-loop-at : goal.decreases-loop-at
+decreases-loop-at l = l.at

@@ -1,9 +1,5 @@
-use Rattle.std.proofs.Common.{◌-◌, List, length, ap, sym, subst, ◌∙◌, arith}
-use Rattle.std.proofs.lemmas.Bool.{true≢false}
-use Rattle.act1_order.specs.Search.{HasState}
-use Rattle.act1_order.specs.declared.search.State.{State}
-use Rattle.act1_order.specs.declared.search.State.TheVariants as state
-use Rattle.act1_order.proofs.SearchLemmas.{path_low, placed_step, opened_step, ring_step}
+use Rattle.std.proofs.Common.{◌-◌, length, arith}
+use Rattle.act1_order.proofs.SearchLemmas.{path_low, placed_step, opened_step}
 use Rattle.act1_order.proofs.search.Search.step.Goals as goal
 
 pub next_read-requires-clause-low : goal.next_read-requires-clause-low
@@ -15,32 +11,19 @@ place-requires c =
     let all = c.in-None.ensures.search.all in
     omega arith
 
-pub has_state-requires : goal.has_state-requires
-has_state-requires c =
-    let low = c.requires.inside c.args.vertex c.in-Some.next c.in-Some.ensures.next.0 in
-    let all = c.in-Some.ensures.search.all in
-    let same = ap (λ (ss : List State). length ss) c.deref.ensures.value in
-    omega arith
-
 pub open-requires : goal.open-requires
 open-requires c =
     let low = c.requires.inside c.args.vertex c.in-Some.next c.in-Some.ensures.next.0 in
     let all = c.in-Some.ensures.search.all in
     omega arith
 
-pub returns-then-has_state : goal.returns-then-has_state
-returns-then-has_state c =
-    ring_step c.args.reads.now c.args.self.now c.next_read.new.self c.args.vertex c.in-Some.next c.in-Some.ensures.search c.in-Some.ensures.path c.requires.last c.in-Some.ensures.next.0
-    (subst (λ (ss : List State). HasState ss c.in-Some.next state.Open) c.deref.ensures.value (c.has_state.ensures.0 c.if-has_state.true))
-
 pub returns-in_ok-place-in-None : goal.returns-in_ok-place-in-None
 returns-in_ok-place-in-None c =
-    placed_step c.args.reads.now c.args.self.now c.next_read.new.self c.place.new.self c.args.vertex c.in-None.ensures.search c.in-None.ensures.states c.in-None.ensures.path c.requires.last c.in-None.ensures.next
+    placed_step c.args.reads.now c.args.self.now c.next_read.new.self c.place.new.self c.args.vertex c.requires.inside c.in-None.ensures.search c.in-None.ensures.states c.in-None.ensures.path c.requires.last c.in-None.ensures.next
     c.in_ok-place-in-None.ensures.states c.in_ok-place-in-None.ensures.passed c.in_ok-place-in-None.ensures.path c.in_ok-place-in-None.ensures.order
 
 pub returns-in_ok-open-in-Some : goal.returns-in_ok-open-in-Some
 returns-in_ok-open-in-Some c =
-    opened_step c.args.reads.now c.args.self.now c.next_read.new.self c.open.new.self c.args.vertex c.in-Some.next c.requires.inside c.in-Some.ensures.search c.in-Some.ensures.states c.in-Some.ensures.path c.requires.last
+    opened_step c.args.reads.now c.args.self.now c.next_read.new.self c.open.new.self c.args.vertex c.in-Some.next c.in-Some.ensures.search c.in-Some.ensures.states c.in-Some.ensures.path c.requires.last
     c.in-Some.ensures.next.0 c.in-Some.ensures.next.1
-    (λ st. true≢false (sym (c.has_state.ensures.1 (subst (λ (ss : List State). HasState ss c.in-Some.next state.Open) (sym c.deref.ensures.value) st)) ∙ c.if-has_state.false))
     c.in_ok-open-in-Some.ensures.states c.in_ok-open-in-Some.ensures.passed c.in_ok-open-in-Some.ensures.path c.in_ok-open-in-Some.ensures.order
