@@ -1,35 +1,35 @@
-ghost use Rattle.std.specs.Prelude.{◌≡◌, ◌≢◌, [], ◌∷◌, ◌++◌, OnOk, OnErr};
-ghost use Rattle.act1_outside.specs.MemoryFiles.{times};
-ghost use Rattle.act1_outside.specs.Faults.{Rose, OnlyAt};
+ghost use Rattle.std.specs.Prelude.{◌≡◌, ◌≢◌, ℕ, List};
+ghost use Rattle.act1_outside.specs.Failures.{failures_of};
+ghost use Rattle.act1_outside.specs.Faults.{Rose, OnlyAt, count_after, is_memory};
 
-use act1_base::{Items, Memory, Name};
-use act1_outside::{FileFault, Files};
+use act1_outside::{Failures, FileFault, Files};
 use std::alloc::Global;
 use std::io::Read;
 use std::{fs, io, rt};
 
 /// The files of the system. They tell nothing of their content; the names of the reads and writes
 /// that failed are kept, and are what is counted. Where such a list can't grow the answer is
-/// `Memory`.
+/// `Memory`, and writes that end so are counted too.
 #[derive(Drop)]
 pub struct RealFiles<'a, R> {
     rt: &'a R,
-    alloc: Global,
-    failed_reads: Items<Name>,
-    failed_writes: Items<Name>,
+    failed_reads: Failures,
+    failed_writes: Failures,
+    unwritten: u64,
 }
 
 impl<'a, R> RealFiles<'a, R> {
     /// The files of this runtime. No fault is counted yet.
     pub fn new(rt: &'a R, alloc: Global) -> RealFiles<'a, R>
-        ensures reads { result.failed_reads ≡ [] }
-        ensures writes { result.failed_writes ≡ [] }
+        ensures reads { (name : List ℕ) → failures_of result.failed_reads name ≡ 0 }
+        ensures writes { (name : List ℕ) → failures_of result.failed_writes name ≡ 0 }
+        ensures memory { result.unwritten ≡ 0 }
     {
         RealFiles {
             rt,
-            alloc,
-            failed_reads: Items::new(alloc),
-            failed_writes: Items::new(alloc),
+            failed_reads: Failures::new(alloc),
+            failed_writes: Failures::new(alloc),
+            unwritten: 0,
         }
     }
 }
@@ -42,27 +42,28 @@ fn read_bytes<R: rt::Files>(rt: &R, alloc: Global, name: &str, most: u64) -> io:
     Ok(bytes)
 }
 
-// Adds a name to those of the failed calls.
-fn note(alloc: Global, failed: &mut Items<Name>, name: &str) -> Result<(), Memory>
-    ensures ok { OnOk result (failed.new ≡ failed.old ++ name.now ∷ []) }
-    ensures err { OnErr result (failed.new ≡ failed.old) }
-{
-    failed.push(Name::new(alloc, name.as_bytes())?)
-}
-
 // What an error of the system is to the caller, once the name is noted.
-#[tactic(auto, using(act1_outside::proofs::Times::noted))]
-fn fault(alloc: Global, failed: &mut Items<Name>, name: &str, error: &io::Error) -> FileFault
-    ensures rose { result ≡ FileFault.Failed → Rose (times failed.old name.now) (times failed.new name.now) }
-    ensures at { OnlyAt name.now (times failed.old) (times failed.new) }
+fn fault(failures: &mut Failures, name: &str, error: &io::Error) -> FileFault
+    ensures rose { result ≡ FileFault.Failed → Rose (failures_of failures.old name.now) (failures_of failures.new name.now) }
+    ensures at { OnlyAt name.now (failures_of failures.old) (failures_of failures.new) }
     ensures never_long { result ≢ FileFault.TooLong }
 {
     if error.kind() == io::ErrorKind::OutOfMemory {
         return FileFault::Memory;
     }
-    match note(alloc, failed, name) {
+    match failures.note(name) {
         Ok(()) => FileFault::Failed,
         Err(_) => FileFault::Memory,
+    }
+}
+
+// The count of writes that found no memory, after one that ended with this fault.
+fn unwritten_after(count: u64, fault: FileFault) -> u64
+    ensures { result ≡ count_after (is_memory fault) count }
+{
+    match fault {
+        FileFault::Memory => count.saturating_add(1),
+        _ => count,
     }
 }
 
@@ -72,8 +73,9 @@ impl<R: rt::Files> Files for RealFiles<'_, R> {
     ghost seen = { λ f. record {
       tells = false;
       held = λ name. None;
-      read_faults = times f.failed_reads;
-      write_faults = times f.failed_writes;
+      read_faults = failures_of f.failed_reads;
+      write_faults = failures_of f.failed_writes;
+      unwritten = f.unwritten;
     } };
 
     fn read(&mut self, alloc: Global, name: &str, most: u64) -> Result<Vec<u8>, FileFault> {
@@ -84,14 +86,18 @@ impl<R: rt::Files> Files for RealFiles<'_, R> {
                 }
                 Ok(bytes)
             }
-            Err(e) => Err(fault(self.alloc, &mut self.failed_reads, name, &e)),
+            Err(e) => Err(fault(&mut self.failed_reads, name, &e)),
         }
     }
 
     fn write(&mut self, name: &str, bytes: &[u8]) -> Result<(), FileFault> {
         match fs::write(self.rt, name, bytes) {
             Ok(()) => Ok(()),
-            Err(e) => Err(fault(self.alloc, &mut self.failed_writes, name, &e)),
+            Err(e) => {
+                let fault = fault(&mut self.failed_writes, name, &e);
+                self.unwritten = unwritten_after(self.unwritten, fault);
+                Err(fault)
+            }
         }
     }
 }

@@ -19,8 +19,8 @@ use Rattle.act1_fuses.specs.declared.fuses.StartAt.{StartAt}
 use Rattle.act1_fuses.specs.Array.{IsUsed, IsFed, Sound, IsCircuitOf, Drives, Beginning, pad_wire, pin_wire}
 use Rattle.act1_array.specs.declared.network.Network.{Network}
 use Rattle.act1_array.specs.Gives.{Apart, AreUsed, IsFirstFloating, IsFirstUnfed, IsFirstUnused, OutputsAreFed, PinIsBefore, PinsAreFed}
-use Rattle.act1_array.specs.Network.{IsNetworkOf}
-use Rattle.act1_array.specs.Parts.{AreModules, AreOutputs, AreStarts, GivesPins, start_at_beginning, start_beginning}
+use Rattle.act1_array.specs.NetworkSteps.{IsNetworkOf}
+use Rattle.act1_array.specs.PartSteps.{AreModules, AreOutputs, AreStarts, GivesPins, start_at_beginning, start_beginning}
 use Rattle.act1_base.proofs.ListGets.{some_is, get_within, get_in, get_cases, get_written, get_unwritten, contains_at, place_of}
 use Rattle.act1_array.proofs.ClassLemmas.{all_of}
 use Rattle.act1_array.proofs.NetworkLemmas.{is_source, places_rise, not_both}

@@ -19,7 +19,7 @@ use Rattle.act1_fuses.specs.Wires.{links_of}
 use Rattle.act1_base.specs.Joined.{Leads, Joined}
 use Rattle.act1_base.proofs.Paths.{joined_here, joined_back, joined_on}
 use Rattle.act1_base.proofs.LinkAdded.{with_link, joined_more, link_joins, Through, joined_through}
-use Rattle.act1_array.specs.Classes.{AreClasses, AreMembers, HasClass, IsMerged, marked, renamed}
+use Rattle.act1_array.specs.ClassSteps.{AreClasses, AreMembers, HasClass, IsMerged, marked, renamed}
 use Rattle.act1_base.proofs.ListGets.{some_is, get_within, get_in, get_more, get_last, get_cases, contains_at, place_of, get_written, get_unwritten, get_map, get_mapped, same_gets}
 
 module _ {V : Type 0} where

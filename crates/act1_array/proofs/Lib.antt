@@ -4,6 +4,6 @@ pub mod ClassLemmas
 pub mod NetworkLemmas
 pub mod OneAnswers
 pub mod OwnerLemmas
+pub mod RangeLemmas
 pub mod Refusals
 pub mod SpotLemmas
-pub mod StartLemmas

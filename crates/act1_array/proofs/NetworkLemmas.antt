@@ -20,10 +20,10 @@ use Rattle.act1_fuses.specs.Wires.{links_of}
 use Rattle.act1_fuses.specs.Array.{IsSource, IsFed, IsWireOf, Drives, out_wire, pad_wire}
 use Rattle.act1_array.specs.declared.network.Network.{Network}
 use Rattle.act1_array.specs.declared.owners.Pair.{Pair}
-use Rattle.act1_array.specs.Classes.{AreClasses, HasClass}
+use Rattle.act1_array.specs.ClassSteps.{AreClasses, HasClass}
 use Rattle.act1_array.specs.Gives.{AreJoined, source_place}
-use Rattle.act1_array.specs.Network.{Feeds, GivesPair, IsNetworkOf}
-use Rattle.act1_array.specs.Owners.{GivesSource, IsLeastFrom, Meet, Shares}
+use Rattle.act1_array.specs.NetworkSteps.{Feeds, GivesPair, IsNetworkOf}
+use Rattle.act1_array.specs.OwnerSteps.{GivesSource, IsLeastFrom, Meet, Shares}
 use Rattle.act1_base.proofs.ListGets.{some_is, get_within, get_map, get_mapped, contains_at, place_of}
 use Rattle.act1_array.proofs.ClassLemmas.{has_class}
 use Rattle.act1_array.proofs.OwnerLemmas.{one_wire, one_source}

@@ -1,4 +1,4 @@
--- An array has one answer: each refusal says that a condition of a sound array fails that all later ones need.
+-- An array has at most one answer: each refusal says that a condition of a sound array fails that all later ones need.
 use Rattle.std.proofs.Common.{ℕ, zero, suc, ◌≡◌, ◌≢◌, ◌<◌, ◌⊎◌, List, [], ◌∷◌, Result, Ok, Err, All, Contains, inl, inr, refl, sym, ap, subst, ◌∙◌, arith}
 use Rattle.std.specs.Prelude.{slice_get}
 use Rattle.std.proofs.lemmas.Bool.{cases_order}
@@ -14,12 +14,11 @@ use Rattle.act1_fuses.specs.declared.fuses.FuseFile.{FuseFile}
 use Rattle.act1_fuses.specs.declared.fuses.Port.{Port}
 use Rattle.act1_fuses.specs.declared.fuses.StartAt.{StartAt}
 use Rattle.act1_fuses.specs.Array.{IsFed, IsUsed, Sound, pad_wire}
-use Rattle.act1_fuses.specs.Rules.{KeepsRules}
-use Rattle.act1_fuses.proofs.Unique.{one_circuit_of_array}
+use Rattle.act1_fuses.specs.Laws.{OneCircuit}
 use Rattle.act1_array.specs.declared.fault.ArrayFault.{ArrayFault}
 use Rattle.act1_array.specs.declared.fault.ArrayFault.TheVariants.{Driven, Floating, Unfed, StartUnused, Memory}
 use Rattle.act1_array.specs.Gives.{AreUsed, Gives, IsDriven, IsFirstFloating, IsFirstUnfed, IsFirstUnused, IsLeastPair, OutputsAreFed, PairIsUpTo, PinIsBefore, PinsAreFed, source_place}
-use Rattle.act1_array.specs.OneAnswer.{OneAnswer}
+use Rattle.act1_array.specs.Laws.{OneAnswer}
 use Rattle.act1_array.proofs.NetworkLemmas.{after_first, not_both}
 use Rattle.act1_array.proofs.OwnerLemmas.{one_source}
 
@@ -141,7 +140,7 @@ module _ (dev : Device) (f : FuseFile) where
       h.unused (subst (λ (x : Spot). IsUsed f.sites x) h.spot_is (All-contains (λ (start : StartAt). IsUsed f.sites start.spot) f.starts h.start used (contains_at f.starts h.number h.start h.place)))
 
   -- a sound array isn't refused
-  pub sound_or_refused : (e : ArrayFault) → e ≢ Memory → Sound dev f → Gives dev f (Err e) → ⊥
+  sound_or_refused : (e : ArrayFault) → e ≢ Memory → Sound dev f → Gives dev f (Err e) → ⊥
   sound_or_refused (Driven first second) cause sound h = h.fails sound.apart
   sound_or_refused (Floating spot pin) cause sound h = pins_or_floating spot pin sound.pins h.1
   sound_or_refused (Unfed output) cause sound h = outputs_or_unfed output sound.outputs h.2
@@ -149,7 +148,7 @@ module _ (dev : Device) (f : FuseFile) where
   sound_or_refused Memory cause sound h = cause refl
 
   -- two refusals are one
-  pub one_refusal : (e other : ArrayFault) → e ≢ Memory → other ≢ Memory → Gives dev f (Err e) → Gives dev f (Err other) → e ≡ other
+  one_refusal : (e other : ArrayFault) → e ≢ Memory → other ≢ Memory → Gives dev f (Err e) → Gives dev f (Err other) → e ≡ other
   one_refusal (Driven s t) (Driven u v) cause next a b = one_driven s t u v a b
   one_refusal (Driven s t) (Floating spot pin) cause next a b = absurd (a.fails b.0)
   one_refusal (Driven s t) (Unfed output) cause next a b = absurd (a.fails b.0)
@@ -169,10 +168,6 @@ module _ (dev : Device) (f : FuseFile) where
   one_refusal Memory other cause next a b = absurd (cause refl)
   one_refusal e Memory cause next a b = absurd (next refl)
 
-  module _ (rules : KeepsRules dev f) where
-    pub one_placed : (p q : Placed) → Gives dev f (Ok p) → Gives dev f (Ok q) → p ≡ q
-    one_placed p q a b = one_circuit_of_array dev f rules a.0 p q a.1 b.1
-
 abbrev circuit : Placed → Result Placed ArrayFault
 circuit p = Ok p
 
@@ -183,9 +178,9 @@ refused e = Err e
 is_cause : (e : ArrayFault) → refused e ≢ Err Memory → e ≢ Memory
 is_cause e cause same = cause (ap refused same)
 
--- an array has one answer
-pub one_answer : OneAnswer
-one_answer dev f rules (Ok p) (Ok q) cause next a b = ap circuit (one_placed dev f rules p q a b)
-one_answer dev f rules (Ok p) (Err e) cause next a b = absurd (sound_or_refused dev f e (is_cause e next) a.0 b)
-one_answer dev f rules (Err e) (Ok p) cause next a b = absurd (sound_or_refused dev f e (is_cause e cause) b.0 a)
-one_answer dev f rules (Err e) (Err other) cause next a b = ap refused (one_refusal dev f e other (is_cause e cause) (is_cause other next) a b)
+-- an array has one answer, where a sound one has one circuit
+pub one_answer : OneCircuit → OneAnswer
+one_answer one dev f rules (Ok p) (Ok q) cause next a b = ap circuit (one dev f rules a.0 p q a.1 b.1)
+one_answer one dev f rules (Ok p) (Err e) cause next a b = absurd (sound_or_refused dev f e (is_cause e next) a.0 b)
+one_answer one dev f rules (Err e) (Ok p) cause next a b = absurd (sound_or_refused dev f e (is_cause e cause) b.0 a)
+one_answer one dev f rules (Err e) (Err other) cause next a b = ap refused (one_refusal dev f e other (is_cause e cause) (is_cause other next) a b)

@@ -13,9 +13,9 @@ use Rattle.act1_fuses.specs.Array.{IsWireOf, out_wire, pad_wire}
 use Rattle.act1_array.specs.declared.classes.Classes.{Classes}
 use Rattle.act1_array.specs.declared.owners.Owners.{Owners}
 use Rattle.act1_array.specs.declared.owners.Pair.{Pair}
-use Rattle.act1_array.specs.Classes.{HasClass, IsWhole}
+use Rattle.act1_array.specs.ClassSteps.{HasClass, IsWhole}
 use Rattle.act1_array.specs.Gives.{PairIsUpTo, source_place}
-use Rattle.act1_array.specs.Owners.{AreOwners, GivesSource, IsIn, IsLeastFrom, Meet, pair_with}
+use Rattle.act1_array.specs.OwnerSteps.{AreOwners, GivesSource, IsIn, IsLeastFrom, Meet, pair_with}
 use Rattle.act1_base.proofs.ListGets.{some_is, get_within, get_written, get_unwritten, contains_at}
 
 -- a numbered wire has one class

@@ -10,8 +10,8 @@ use Rattle.act1_array.specs.declared.fault.ArrayFault.{ArrayFault}
 use Rattle.act1_array.specs.declared.fault.ArrayFault.TheVariants as fault
 use Rattle.act1_array.specs.declared.network.Network.{Network}
 use Rattle.act1_array.specs.Gives.{Apart, Gives}
-use Rattle.act1_array.specs.Network.{IsNetworkOf}
-use Rattle.act1_array.specs.Parts.{AreModules, AreOutputs, GivesModules, GivesOutputs, GivesStarts}
+use Rattle.act1_array.specs.NetworkSteps.{IsNetworkOf}
+use Rattle.act1_array.specs.PartSteps.{AreModules, AreOutputs, GivesModules, GivesOutputs, GivesStarts}
 use Rattle.act1_array.proofs.CircuitLemmas.{pins_are_fed, outputs_are_fed}
 
 module _ (dev : Device) (f : FuseFile) (n : Network) (h : IsNetworkOf dev f n) (apart : Apart dev f) where

@@ -2,7 +2,6 @@
 use Rattle.std.proofs.Common.{ℕ, suc, zero, ◌≡◌, ◌≢◌, ◌<◌, ◌≤◌, ◌⊎◌, ◌+◌, ◌*◌, ◌/◌, ◌%◌, ◌&&◌, Bool, true, false, IsTrue, List, [], ◌∷◌, ◌++◌, length, get_or, drop, drop-cons, add-one, replicate, Some, refl, sym, ap, subst, ◌∙◌, inl, inr, arith}
 use Rattle.std.specs.Prelude.{if◌then◌else◌, Contains, slice_get, slice_set, All}
 use Rattle.std.proofs.lemmas.Bool.{cases_eq, cases_lt, false≢true}
-use Rattle.std.proofs.lemmas.Bool.Decides.{nat_tests}
 use Rattle.std.proofs.lemmas.List.{length-set, drop_all, append-nil}
 use Rattle.std.proofs.lemmas.List.Elements.{All-contains, All-weaker}
 use Rattle.act1_base.specs.Rising.{Rises}
@@ -11,13 +10,13 @@ use Rattle.act1_device.specs.declared.device.Track.{Track}
 use Rattle.act1_device.specs.declared.device.Line.TheVariants as line
 use Rattle.act1_device.specs.declared.device.Site.{Site}
 use Rattle.act1_device.specs.declared.device.Site.TheVariants.{Along, Cross}
-use Rattle.act1_device.specs.Rules.{is_device}
+use Rattle.act1_device.specs.Laws.{DevicesAreSmall}
 use Rattle.act1_device.specs.Sites.{IsSite}
 use Rattle.act1_circuit.specs.declared.circuit.Spot.{Spot}
 use Rattle.act1_circuit.specs.Spots.{SpotIsBefore}
 use Rattle.act1_fuses.specs.Array.{IsUsed}
 use Rattle.act1_array.specs.Gives.{AreUsed}
-use Rattle.act1_array.specs.Spots.{AreMarks, IsInside, IsNear, place_of, spot_of, with_use}
+use Rattle.act1_array.specs.SpotSteps.{AreMarks, IsInside, IsNear, place_of, spot_of, with_use}
 use Rattle.act1_base.proofs.ListGets.{some_is, get_within, get_written, get_unwritten}
 
 both : (a b : Bool) → IsTrue (a && b) → IsTrue a × IsTrue b
@@ -25,21 +24,16 @@ both true true h = (refl, refl)
 both true false h = absurd (false≢true h)
 both false b h = absurd (false≢true h)
 
--- a device has at most 32 rows and 64 columns
-pub sizes : (dev : Device) → (dev.rows ≤ 32) × (dev.columns ≤ 64)
-unfolding is_device
-sizes dev = let v = dev.valid in grind (arith, nat_tests)
-
 -- the sites of a device are inside the largest one
-site_is_inside : (dev : Device) (site : Site) → IsSite dev site → IsInside site
-site_is_inside dev (Along channel t index) h = tt
-site_is_inside dev (Cross channel t (line.Pin row column pin)) h = tt
-site_is_inside dev (Cross channel t (line.Out row column)) h = let s = sizes dev in let low = h.0.0.0 in let left = h.0.0.1 in (omega arith, omega arith)
-site_is_inside dev (Cross channel t (line.Long column index)) h = tt
-site_is_inside dev (Cross channel t (line.Pad pad)) h = tt
+site_is_inside : DevicesAreSmall → (dev : Device) (site : Site) → IsSite dev site → IsInside site
+site_is_inside small dev (Along channel t index) h = tt
+site_is_inside small dev (Cross channel t (line.Pin row column pin)) h = tt
+site_is_inside small dev (Cross channel t (line.Out row column)) h = let s = small dev in let rows = s.rows in let columns = s.columns in let low = h.0.0.0 in let left = h.0.0.1 in (omega arith, omega arith)
+site_is_inside small dev (Cross channel t (line.Long column index)) h = tt
+site_is_inside small dev (Cross channel t (line.Pad pad)) h = tt
 
-pub sites_are_inside : (dev : Device) (sites : List Site) → All (IsSite dev) sites → All IsInside sites
-sites_are_inside dev sites h = All-weaker (IsSite dev) IsInside (site_is_inside dev) sites h
+pub sites_are_inside : DevicesAreSmall → (dev : Device) (sites : List Site) → All (IsSite dev) sites → All IsInside sites
+sites_are_inside small dev sites h = All-weaker (IsSite dev) IsInside (site_is_inside small dev) sites h
 
 -- the marks when some sites are looked at
 abbrev pub with_uses : List Site → List Bool → List Bool

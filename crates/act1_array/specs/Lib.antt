@@ -1,7 +1,8 @@
-pub mod Classes
+pub mod ClassSteps
+pub mod FaultWords
 pub mod Gives
-pub mod Network
-pub mod OneAnswer
-pub mod Owners
-pub mod Parts
-pub mod Spots
+pub mod Laws
+pub mod NetworkSteps
+pub mod OwnerSteps
+pub mod PartSteps
+pub mod SpotSteps

@@ -1,5 +1,6 @@
-ghost use Rattle.std.specs.Prelude.{◌≡◌, ◌≢◌, ◌<◌, ◌≤◌, length, map, All, AllPairs, IfOk};
+ghost use Rattle.std.specs.Prelude.{◌≡◌, ◌≢◌, ◌≤◌, length, map, All, AllPairs, IfOk};
 ghost use Rattle.act1_circuit.specs.declared.circuit.Start.{Start};
+ghost use Rattle.act1_circuit.specs.Range.{InRange};
 ghost use Rattle.act1_device.specs.Sites.{IsSite};
 ghost use Rattle.act1_fuses.specs.declared.fuses.Port.{Port};
 ghost use Rattle.act1_fuses.specs.Rules.{KeepsRules};
@@ -11,9 +12,9 @@ use crate::network::Network;
 use crate::outputs::outputs_of;
 use crate::owners::Pair;
 use crate::starts::starts_of;
-use act1_base::{Items, Memory, Name};
+use act1_base::{Items, Memory, Name, copy_of_name};
 use act1_circuit::{Circuit, Placed};
-use act1_device::Device;
+use act1_device::{Device, devices_are_small};
 use act1_fuses::{FuseFile, Port};
 use std::alloc::Global;
 
@@ -28,16 +29,6 @@ fn names_of(alloc: Global, ports: &[Port]) -> Result<Items<Name>, Memory>
     Ok(names)
 }
 
-// A copy of a name, if there is one.
-fn copy_of(alloc: Global, name: &Option<Name>) -> Result<Option<Name>, Memory>
-    ensures { IfOk result (λ copy. copy ≡ name.now) }
-{
-    match name {
-        Some(name) => Ok(Some(Name::new(alloc, name.as_bytes())?)),
-        None => Ok(None),
-    }
-}
-
 /// The circuit that an array is, by its device and its antifuse file alone. A module is used if a
 /// listed antifuse touches its output; the circuit's modules are the used ones, by row and then by
 /// column, and each pin and each output has the source that it is joined to. Clock, inputs, outputs
@@ -48,7 +39,8 @@ fn copy_of(alloc: Global, name: &Option<Name>) -> Result<Option<Name>, Memory>
 /// module is joined to none, `Unfed` where an output is, `StartUnused` where a start stands at an
 /// unused module. `Memory` where no memory was found.
 ///
-/// The circuit has at most 2,048 modules, and its starts stand at modules of their own.
+/// The circuit has at most 2,048 modules, it has each source of its pins and outputs, and its starts
+/// stand at modules of their own.
 ///
 /// Two wires are joined where a path of listed antifuses leads from the one to the other; what a sound
 /// array is, and the order of its sources and refusals, are this project's own rules.
@@ -56,9 +48,10 @@ pub fn circuit_of(alloc: Global, device: &Device, file: &FuseFile) -> Result<Pla
     requires { KeepsRules device.now file.now }
     ensures gives { Gives device.now file.now result }
     ensures few { IfOk result (λ placed. length placed.spots ≤ 2048) }
-    ensures starts { IfOk result (λ placed. All (λ (start : Start). start.«module» < length placed.circuit.modules) placed.circuit.starts) }
+    ensures in_range { IfOk result (λ placed. InRange placed.circuit) }
     ensures apart { IfOk result (λ placed. AllPairs (λ (s t : Start). s.«module» ≢ t.«module») placed.circuit.starts) }
 {
+    devices_are_small();
     circuit_of_sites(alloc, device, file)
 }
 
@@ -80,7 +73,7 @@ fn circuit_of_sites(alloc: Global, device: &Device, file: &FuseFile) -> Result<P
     let outputs = outputs_of(alloc, &network, file)?;
     let starts = starts_of(alloc, network.spots(), file)?;
     let circuit = Circuit {
-        clock: copy_of(alloc, &file.clock)?,
+        clock: copy_of_name(&file.clock)?,
         inputs: names_of(alloc, file.ins.as_slice())?,
         modules,
         outputs,

@@ -2,7 +2,7 @@ ghost use Rattle.std.specs.Prelude.{ℕ, List, ◌≡◌, ◌≢◌, ◌<◌, �
 ghost use Rattle.act1_device.specs.Sites.{IsSite, ends_of};
 ghost use Rattle.act1_device.specs.declared.device.Wire.{Wire};
 ghost use Rattle.act1_fuses.specs.Wires.{links_of};
-ghost use Rattle.act1_array.specs.Classes.{AreClasses, AreMembers, IsClassOf, IsMerged, IsWhole, marked, renamed};
+ghost use Rattle.act1_array.specs.ClassSteps.{AreClasses, AreMembers, IsClassOf, IsMerged, IsWhole, marked, renamed};
 
 use act1_base::{Items, Memory};
 use act1_device::{Device, Site, Wire};

@@ -4,6 +4,7 @@
 mod circuit;
 mod classes;
 mod fault;
+mod fault_line;
 mod laws;
 mod modules;
 mod network;
@@ -11,9 +12,8 @@ mod outputs;
 mod owners;
 mod spots;
 mod starts;
-#[cfg(test)]
-mod tests;
 
 pub use circuit::circuit_of;
 pub use fault::ArrayFault;
+pub use fault_line::write_array_fault;
 pub use laws::one_answer;

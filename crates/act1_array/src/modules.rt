@@ -1,7 +1,7 @@
 ghost use Rattle.act1_device.specs.declared.device.Device.{Device};
 ghost use Rattle.act1_fuses.specs.declared.fuses.FuseFile.{FuseFile};
-ghost use Rattle.act1_array.specs.Network.{IsNetworkOf, IsReady};
-ghost use Rattle.act1_array.specs.Parts.{GivesModules, GivesPins};
+ghost use Rattle.act1_array.specs.NetworkSteps.{IsNetworkOf, IsReady};
+ghost use Rattle.act1_array.specs.PartSteps.{GivesModules, GivesPins};
 
 use crate::fault::ArrayFault;
 use crate::network::Network;

@@ -4,7 +4,7 @@ ghost use Rattle.act1_device.specs.Sites.{IsSite};
 ghost use Rattle.act1_fuses.specs.declared.fuses.FuseFile.{FuseFile};
 ghost use Rattle.act1_fuses.specs.declared.fuses.Port.{Port};
 ghost use Rattle.act1_fuses.specs.Array.{IsSource};
-ghost use Rattle.act1_array.specs.Network.{Feeds, GivesPair, IsNetworkOf, IsReady};
+ghost use Rattle.act1_array.specs.NetworkSteps.{Feeds, GivesPair, IsNetworkOf, IsReady};
 
 use crate::classes::Classes;
 use crate::owners::{Owners, Pair};

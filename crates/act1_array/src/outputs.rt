@@ -2,8 +2,8 @@ ghost use Rattle.std.specs.Prelude.{◌≤◌, length, All};
 ghost use Rattle.act1_device.specs.declared.device.Device.{Device};
 ghost use Rattle.act1_fuses.specs.declared.fuses.Port.{Port};
 ghost use Rattle.act1_fuses.specs.Array.{IsSource, pad_wire};
-ghost use Rattle.act1_array.specs.Network.{IsNetworkOf, IsReady};
-ghost use Rattle.act1_array.specs.Parts.{GivesOutputs};
+ghost use Rattle.act1_array.specs.NetworkSteps.{IsNetworkOf, IsReady};
+ghost use Rattle.act1_array.specs.PartSteps.{GivesOutputs};
 
 use crate::fault::ArrayFault;
 use crate::network::Network;

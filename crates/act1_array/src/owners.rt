@@ -2,9 +2,9 @@ ghost use Rattle.std.specs.Prelude.{ℕ, List, ◌≡◌, ◌<◌, ◌≤◌, �
 ghost use Rattle.act1_circuit.specs.declared.circuit.Spot.{Spot};
 ghost use Rattle.act1_fuses.specs.declared.fuses.FuseFile.{FuseFile};
 ghost use Rattle.act1_fuses.specs.Array.{IsWireOf, out_wire, pad_wire};
-ghost use Rattle.act1_array.specs.Classes.{IsWhole};
+ghost use Rattle.act1_array.specs.ClassSteps.{IsWhole};
 ghost use Rattle.act1_array.specs.Gives.{source_place};
-ghost use Rattle.act1_array.specs.Owners.{AreOwners, GivesSource, IsIn, pair_with};
+ghost use Rattle.act1_array.specs.OwnerSteps.{AreOwners, GivesSource, IsIn, pair_with};
 
 use crate::classes::Classes;
 use act1_base::Memory;

@@ -1,11 +1,11 @@
 ghost use Rattle.std.specs.Prelude.{◌≡◌, ◌<◌, ◌≤◌, ◌+◌, ◌*◌, length, All, IfOk};
 ghost use Rattle.act1_device.specs.Sites.{IsSite};
 ghost use Rattle.act1_array.specs.Gives.{AreUsed};
-ghost use Rattle.act1_array.specs.Spots.{AreMarks, IsInside, IsNear, spot_of, with_use};
+ghost use Rattle.act1_array.specs.SpotSteps.{AreMarks, IsInside, IsNear, spot_of, with_use};
 
 use act1_base::{Items, Memory};
 use act1_circuit::Spot;
-use act1_device::{Device, Line, Site};
+use act1_device::{Device, Line, Site, devices_are_small};
 use std::alloc::Global;
 
 // As many spots as a device of the most rows and columns has.
@@ -55,6 +55,7 @@ pub fn used_spots(alloc: Global, device: &Device, sites: &[Site]) -> Result<Item
     ensures used { IfOk result (AreUsed sites.now) }
     ensures few { IfOk result (λ spots. length spots ≤ 2048) }
 {
+    devices_are_small();
     let marks = marks_of(alloc, sites)?;
     let mut spots = Items::new(alloc);
     for place in 0..marks.len() {

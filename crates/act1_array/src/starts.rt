@@ -1,6 +1,6 @@
 ghost use Rattle.std.specs.Prelude.{◌≡◌, ◌≤◌, length, slice_get, Some, IfSome, IfNone, Contains};
 ghost use Rattle.act1_array.specs.Gives.{AreUsed};
-ghost use Rattle.act1_array.specs.Parts.{GivesStarts};
+ghost use Rattle.act1_array.specs.PartSteps.{GivesStarts};
 
 use crate::fault::ArrayFault;
 use act1_base::{Items, Name};

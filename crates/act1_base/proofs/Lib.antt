@@ -1,11 +1,14 @@
+pub mod FirstFaults
 pub mod LineCuts
 pub mod LinkAdded
 pub mod ListGets
 pub mod NumberWords
 pub mod Paths
+pub mod Pigeonhole
 pub mod Samples
 pub mod Spelling
 pub mod SplitLoops
+pub mod TextGrows
 pub mod TextLaws
 pub mod TextLines
 pub mod TextReads

@@ -7,6 +7,10 @@ module _ {X : Type 0} where
   pub some_is : (x y : X) → Some x ≡ Some y → x ≡ y
   some_is x y e = cc
 
+  -- a place has one element
+  pub one_at : (xs : List X) (i : ℕ) (x y : X) → slice_get xs i ≡ Some x → slice_get xs i ≡ Some y → x ≡ y
+  one_at xs i x y e f = some_is x y (sym e ∙ f)
+
   pub get_within : (xs : List X) (i : ℕ) (x : X) → slice_get xs i ≡ Some x → i < length xs
   get_within [] i x e = cc
   get_within (y ∷ xs) zero x e = omega arith

@@ -4,6 +4,7 @@ use Rattle.std.specs.List.{slice_split, join_with_byte, AllByRecursion}
 use Rattle.std.proofs.lemmas.List.{append-nil}
 use Rattle.std.proofs.lemmas.List.Splits.{join_with_byte-slice_split, length-slice_split}
 use Rattle.act1_base.specs.declared.texts.TextFault.{TextFault}
+use Rattle.act1_base.specs.FirstFault.{Runs}
 use Rattle.act1_base.specs.Texts.{LineRules, numbered, at_end, and_then, read_on, read_parts, reading}
 use Rattle.act1_base.specs.Words.{words_of, text_of_lines}
 use Rattle.act1_base.proofs.TextLines.{IsWithout, joined, lines_again, text_again}
@@ -16,17 +17,12 @@ joined_words (line ∷ lines) =
     ap (λ (l : List ℕ). l ∷ map joined (map words_of lines)) (join_with_byte-slice_split 32 line) ∙ ap (λ (ls : List (List ℕ)). line ∷ ls) (joined_words lines)
 
 module _ {State Kind : Type 0} (rules : LineRules State Kind) where
-  -- the lines lead from the one state to the other
-  abbrev pub Runs : State → List (List ℕ) → State → Type 0
-  Runs s [] t = s ≡ t
-  Runs s (line ∷ lines) t = (next : State) × (rules.after s line ≡ Ok next) × Runs next lines t
-
   -- the parts of a text that is read to its end
   pub record Whole (s : State) (parts : List (List ℕ)) (t : State) : Type 0 where
     pub lines : List (List ℕ)
     pub last : State
     pub split : parts ≡ lines ++ [] ∷ []
-    pub runs : Runs s lines last
+    pub runs : Runs rules s lines last
     pub ends : rules.end last ≡ Ok t
 
   ended : (number : ℕ) (r : Result State Kind) (t : State) → numbered number r ≡ Ok t → r ≡ Ok t
@@ -67,7 +63,7 @@ module _ {State Kind : Type 0} (rules : LineRules State Kind) where
 
   -- what the lines of a text do that a format reads to its end, and what is said of the states by what the lines say
   module _ (IsGood : State → Type 0) (said : State → List (List (List ℕ))) (keeps : (s u : State) (line : List ℕ) → IsGood s → rules.after s line ≡ Ok u → IsGood u × (said u ≡ said s ++ words_of line ∷ [])) where
-    runs_said : (lines : List (List ℕ)) (s t : State) → IsGood s → Runs s lines t → IsGood t × (said t ≡ said s ++ map words_of lines)
+    runs_said : (lines : List (List ℕ)) (s t : State) → IsGood s → Runs rules s lines t → IsGood t × (said t ≡ said s ++ map words_of lines)
     runs_said [] s t good h = (subst IsGood h good, sym (ap said h) ∙ sym (append-nil (said s)))
     runs_said (line ∷ lines) s t good h =
         let one = keeps s h.0 line good h.1 in
@@ -95,13 +91,13 @@ module _ {State Kind : Type 0} (rules : LineRules State Kind) where
               ∙ text_again (said w.last);
         }
 
-  run_read : (lines : List (List ℕ)) (s last t : State) (number : ℕ) → Runs s lines last → rules.end last ≡ Ok t → read_on rules s number lines [] ≡ Ok t
+  run_read : (lines : List (List ℕ)) (s last t : State) (number : ℕ) → Runs rules s lines last → rules.end last ≡ Ok t → read_on rules s number lines [] ≡ Ok t
   run_read [] s last t number h e = ap (numbered number) (ap rules.end h ∙ e)
   run_read (line ∷ lines) s last t number h e =
       ap (λ (r : Result State Kind). and_then (numbered number r) (λ u. read_on rules u (number + 1) lines [])) h.1 ∙ run_read lines h.0 last t (number + 1) h.2 e
 
   -- the text of lines that lead to a state in which a text may end is read to that state
-  pub written_is_read : (lines : List (List (List ℕ))) (last t : State) → AllByRecursion (AllByRecursion (IsWithout 10)) lines → Runs rules.start (map joined lines) last → rules.end last ≡ Ok t → reading rules (text_of_lines lines) ≡ Ok t
+  pub written_is_read : (lines : List (List (List ℕ))) (last t : State) → AllByRecursion (AllByRecursion (IsWithout 10)) lines → Runs rules rules.start (map joined lines) last → rules.end last ≡ Ok t → reading rules (text_of_lines lines) ≡ Ok t
   written_is_read lines last t without runs e =
       ap (read_parts rules rules.start 1) (lines_again lines without)
       ∙ parts_read rules (map joined lines) rules.start 1 []

@@ -1,4 +1,5 @@
 pub mod Capped
+pub mod FirstFault
 pub mod Joined
 pub mod Lines
 pub mod Names

@@ -6,15 +6,15 @@ mod lines;
 mod memory;
 mod name;
 mod number;
-#[cfg(test)]
-mod tests;
 mod texts;
 mod words;
+mod writing;
 
 pub use items::Items;
 pub use lines::Lines;
 pub use memory::Memory;
-pub use name::Name;
+pub use name::{Name, copy_of_name};
 pub use number::{NumberFault, read_number, write_number};
 pub use texts::{Format, Stop, TextFault, pieces_of, read_text};
 pub use words::{capped_number, is_name, is_number, words_of};
+pub use writing::{add_names, add_number, add_word, write_named, write_word};

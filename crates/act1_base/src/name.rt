@@ -50,6 +50,16 @@ impl Name {
     }
 }
 
+/// A copy of a name, if there is one.
+pub fn copy_of_name(name: &Option<Name>) -> Result<Option<Name>, Memory>
+    ensures { IfOk result (λ copy. copy ≡ name.now) }
+{
+    match name {
+        Some(name) => Ok(Some(name.clone()?)),
+        None => Ok(None),
+    }
+}
+
 impl Clone for Name {
     ghost is_clone = { λ name copy. copy ≡ name };
 

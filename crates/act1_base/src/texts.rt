@@ -1,5 +1,6 @@
 ghost use Rattle.std.specs.Prelude.{◌≡◌, ◌≤◌, ◌<◌, ◌+◌, ◌^◌, ◌==◌, length, map, IfOk};
 ghost use Rattle.std.specs.List.{slice_split};
+ghost use Rattle.act1_base.specs.FirstFault.{IsFormatOf, IsReadAs};
 ghost use Rattle.act1_base.specs.Texts.{Gives, numbered, reading, read_on, at_end};
 ghost use Rattle.act1_base.specs.declared.texts.Stop.TheVariants.{Memory};
 
@@ -45,10 +46,14 @@ pub struct TextFault<K> {
 /// A format says where a reading starts, what each line does, what is wrong with a line that lacks
 /// its line feed, and whether the text may end after the lines so far. `read_text` then reads a text
 /// of the format, and answers the state after the last line, or the first faulty line. What the
-/// lines do is a total function of the state and the line, so a format owes one proof alone: that
-/// the texts which leave a whole state are those that its writer writes.
+/// lines do is a total function of the state and the line.
+///
+/// A format owes two proofs (`IsFormatOf`): that the bytes which are read to their end are its texts,
+/// and that lines which are taken can be completed to a text. No format says what its first faulty line
+/// is: it is the first that lacks its line feed, or with which the lines up to it begin no text, or the
+/// line after the last, where the text is cut.
 pub trait Format {
-    ghost use Rattle.std.specs.Prelude.{◌≡◌, IfOk};
+    ghost use Rattle.std.specs.Prelude.{◌≡◌, ℕ, List, IfOk};
     ghost use Rattle.act1_base.specs.Texts.{Gives, LineRules};
 
     /// What is kept of the lines so far.
@@ -59,6 +64,9 @@ pub trait Format {
 
     /// What the lines do.
     ghost rules: { Self → LineRules Self.State Self.Kind };
+
+    /// The texts of the format, in words that name no line and no state.
+    ghost is_text: { Self → List ℕ → Type 0 };
 
     /// The state before the first line.
     fn start(&self) -> Result<Self::State, Memory>
@@ -138,15 +146,18 @@ fn read_pieces<F: Format>(
     at_end(format, state, number, rest)
 }
 
-/// The state that the lines of a text leave, or its first faulty line: the first that the format
-/// refuses or that lacks its line feed, or the line after the last where the text may not end there.
+/// The state that the lines of a text leave, or its first faulty line: the first that lacks its line
+/// feed, or with which the lines up to it begin no text of the format, or the line after the last
+/// where the text is cut. What is wrong with it is what the format's rules say first.
 pub fn read_text<F: Format>(
     alloc: Global,
     format: &F,
     bytes: &[u8],
 ) -> Result<F::State, Stop<TextFault<F::Kind>>>
     requires { length bytes.now ≤ 4000000000 }
-    ensures { Gives result (reading (F.rules format.now) bytes.now) }
+    ensures reads { Gives result (reading (F.rules format.now) bytes.now) }
+    // Where the rules are those of the texts, in the words of the texts.
+    ensures texts { IsFormatOf (F.rules format.now) (F.is_text format.now) → IsReadAs (F.is_text format.now) bytes.now result }
 {
     let pieces = pieces_of(alloc, bytes)?;
     let Some((rest, lines)) = pieces.split_last() else {

@@ -1,17 +1,5 @@
 use act1_logic::Table;
-use act1_match::match_module;
-
-// The tables of the two constants and of six variables.
-const PINS: [u64; 8] = [
-    0,
-    0xFFFF_FFFF_FFFF_FFFF,
-    0xAAAA_AAAA_AAAA_AAAA,
-    0xCCCC_CCCC_CCCC_CCCC,
-    0xF0F0_F0F0_F0F0_F0F0,
-    0xFF00_FF00_FF00_FF00,
-    0xFFFF_0000_FFFF_0000,
-    0xFFFF_FFFF_0000_0000,
-];
+use act1_match::{PinChoice, match_module, ones_of};
 
 // Scatters a number over all bits.
 fn scattered(number: u64) -> u64 {
@@ -20,7 +8,11 @@ fn scattered(number: u64) -> u64 {
 
 // The table of the pin that the three lowest bits name.
 fn pin(bits: u64) -> u64 {
-    PINS[(bits % 8) as usize]
+    match (bits % 8) as u8 {
+        0 => ones_of(PinChoice::Zero),
+        1 => ones_of(PinChoice::One),
+        number => ones_of(PinChoice::Var(number - 2)),
+    }
 }
 
 // The table of a 2-to-1 multiplexer: `high` where the select is 1, and `low` where it is 0.

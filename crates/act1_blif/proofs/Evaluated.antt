@@ -5,12 +5,11 @@ use Rattle.std.proofs.lemmas.Bool.{cases_eq}
 use Rattle.std.proofs.lemmas.List.{length-append, length-map, length-set, length-replicate}
 use Rattle.act1_logic.specs.Cover.{value_of}
 use Rattle.act1_order.specs.Order.{IsOrder}
-use Rattle.act1_order.proofs.ListGets.{some_is, get_within, place_of}
-use Rattle.act1_order.proofs.Stands.{stands}
+use Rattle.act1_base.proofs.ListGets.{some_is, get_within, place_of}
 use Rattle.act1_blif.specs.declared.blif.Blif.{Blif}
 use Rattle.act1_blif.specs.declared.blif.Node.{Node}
 use Rattle.act1_blif.specs.Run.{Fits, node_value, signal}
-use Rattle.act1_blif.specs.Valuation.{AreEvaluated, first_node, reads_of}
+use Rattle.act1_blif.specs.ValuationSteps.{AreEvaluated, first_node, reads_of}
 use Rattle.act1_blif.proofs.NetGraph.{node_reads, length_reads}
 use Rattle.act1_blif.proofs.OneValuation.{front, back, at_node, has_node, map_same, cases}
 
@@ -99,7 +98,7 @@ module _ (net : Blif) (q x : List Bool) (order : List ℕ) (h : IsOrder (reads_o
           let all = e.all in
           let node = has_node net.nodes j (omega arith) in
           let long = length_reads net in
-          let at = place_of order s (stands (reads_of net) order h s (omega arith)) in
+          let at = place_of order s (h.there s (omega arith)) in
           let value = e.nodes at.0 j node.0 (get_within order at.0 s at.1) (at.1 ∙ ap (λ (u : ℕ). Some u) place) node.1 in
           ap (signal values) place ∙ value
           ∙ sym (back (x ++ q) (map (node_value values) net.nodes) s j (omega (arith, length-append x q)) ∙ at_node (node_value values) net.nodes j node.0 node.1)

@@ -4,6 +4,5 @@ pub mod NetFacts
 pub mod NetGraph
 pub mod OneValuation
 pub mod Samples
-pub mod TestNets
-pub mod TextGrows
+pub mod LineGrows
 pub mod Texts

@@ -6,7 +6,7 @@ use Rattle.std.proofs.lemmas.Bool.{false≢true}
 use Rattle.std.proofs.lemmas.Bool.Decides.{nat_tests}
 use Rattle.std.proofs.lemmas.List.{length-append, length-map}
 use Rattle.act1_base.specs.Names.{is_name, are_different, are_different_numbers}
-use Rattle.act1_order.proofs.ListGets.{get_read}
+use Rattle.act1_base.proofs.ListGets.{get_read}
 use Rattle.act1_blif.specs.declared.blif.Blif.{Blif}
 use Rattle.act1_blif.specs.declared.blif.Latch.{Latch}
 use Rattle.act1_blif.specs.declared.blif.Node.{Node}

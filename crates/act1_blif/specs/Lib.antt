@@ -1,6 +1,7 @@
+pub mod Laws
 pub mod Names
 pub mod Need
 pub mod Rules
 pub mod Run
 pub mod Text
-pub mod Valuation
+pub mod ValuationSteps

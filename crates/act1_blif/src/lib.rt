@@ -4,8 +4,6 @@
 mod blif;
 mod laws;
 mod names;
-#[cfg(test)]
-mod tests;
 mod text;
 mod valuation;
 

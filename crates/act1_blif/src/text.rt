@@ -1,5 +1,4 @@
 ghost use Rattle.std.specs.Prelude.{◌≡◌, ◌++◌, ◌∷◌, [], map, IfOk, OnOk};
-ghost use Rattle.std.specs.Fmt.{decimal};
 ghost use Rattle.std.specs.List.{flat_map};
 ghost use Rattle.act1_base.specs.Words.{text_line, text_of_lines};
 ghost use Rattle.act1_blif.specs.Names.{signal_name};
@@ -7,7 +6,7 @@ ghost use Rattle.act1_blif.specs.Text.{blif_text, clock_lines, control_words, la
 
 use crate::blif::{Blif, Latch, Node};
 use crate::names::signal_name;
-use act1_base::{Memory, Name, write_number};
+use act1_base::{Memory, Name, add_names, add_number, add_word, write_named};
 use act1_logic::{Mark, Row};
 use std::alloc::Global;
 
@@ -33,7 +32,7 @@ pub fn blif_text(alloc: Global, blif: &Blif) -> Result<Vec<u8>, Memory>
     ensures { IfOk result (λ text. text.items ≡ blif_text blif.now) }
 {
     let mut text = Vec::new(alloc);
-    write_name(&mut text, b".model", &blif.model)?;
+    write_named(&mut text, b".model", blif.model.as_bytes())?;
     write_names(&mut text, b".inputs", blif.inputs.as_slice())?;
     write_signals(&mut text, b".outputs", blif, blif.outputs.as_slice())?;
     write_clock(&mut text, &blif.clock)?;
@@ -43,45 +42,14 @@ pub fn blif_text(alloc: Global, blif: &Blif) -> Result<Vec<u8>, Memory>
     Ok(text)
 }
 
-// Adds a blank and a word. The blank goes with the word behind it, so that nothing has to know which
-// word is the last of its line.
-fn add_word(text: &mut Vec<u8>, word: &[u8]) -> Result<(), Memory>
-    ensures { OnOk result (text.new.items ≡ text.old.items ++ 32 ∷ word.now) }
-{
-    text.push(b' ')?;
-    text.extend_from_slice(word)?;
-    Ok(())
-}
-
-// Adds the names, each after a blank.
-#[tactic(auto, using(crate::proofs::TextGrows::names_more))]
-fn add_names(text: &mut Vec<u8>, names: &[Name]) -> Result<(), Memory>
-    ensures { OnOk result (text.new.items ≡ text.old.items ++ flat_map (λ word. 32 ∷ word) names.now) }
-{
-    for name in names {
-        add_word(text, name.as_bytes())?;
-    }
-    Ok(())
-}
-
 // Adds the names of the signals, each after a blank.
-#[tactic(auto, using(crate::proofs::TextGrows::words_more))]
+#[tactic(auto, using(act1_base::proofs::TextGrows::words_more))]
 fn add_signals(text: &mut Vec<u8>, blif: &Blif, signals: &[u16]) -> Result<(), Memory>
     ensures { OnOk result (text.new.items ≡ text.old.items ++ flat_map (λ word. 32 ∷ word) (map (signal_name blif.now) signals.now)) }
 {
     for signal in signals {
         add_word(text, signal_name(blif, *signal))?;
     }
-    Ok(())
-}
-
-// Adds the line of a word and a name.
-fn write_name(text: &mut Vec<u8>, word: &[u8], name: &Name) -> Result<(), Memory>
-    ensures { OnOk result (text.new.items ≡ text.old.items ++ text_line (word.now ∷ name.now ∷ [])) }
-{
-    text.extend_from_slice(word)?;
-    add_word(text, name.as_bytes())?;
-    text.push(b'\n')?;
     Ok(())
 }
 
@@ -115,7 +83,7 @@ fn write_clock(text: &mut Vec<u8>, clock: &Option<Name>) -> Result<(), Memory>
     ensures { OnOk result (text.new.items ≡ text.old.items ++ text_of_lines (clock_lines clock.now)) }
 {
     match clock {
-        Some(name) => write_name(text, b".clock", name),
+        Some(name) => write_named(text, b".clock", name.as_bytes()),
         None => Ok(()),
     }
 }
@@ -133,14 +101,6 @@ fn add_control(text: &mut Vec<u8>, clock: &Option<Name>) -> Result<(), Memory>
     }
 }
 
-// Adds a blank and the init of a latch.
-fn add_init(text: &mut Vec<u8>, init: u8) -> Result<(), Memory>
-    ensures { OnOk result (text.new.items ≡ text.old.items ++ 32 ∷ decimal init) }
-{
-    text.push(b' ')?;
-    write_number(text, u64::from(init))
-}
-
 // Adds the line of a latch.
 fn write_latch(text: &mut Vec<u8>, blif: &Blif, latch: &Latch) -> Result<(), Memory>
     ensures { OnOk result (text.new.items ≡ text.old.items ++ text_line (latch_words blif.now latch.now)) }
@@ -149,13 +109,13 @@ fn write_latch(text: &mut Vec<u8>, blif: &Blif, latch: &Latch) -> Result<(), Mem
     add_word(text, signal_name(blif, latch.input))?;
     add_word(text, latch.name.as_bytes())?;
     add_control(text, &blif.clock)?;
-    add_init(text, latch.init)?;
+    add_number(text, u64::from(latch.init))?;
     text.push(b'\n')?;
     Ok(())
 }
 
 // Adds the lines of the latches.
-#[tactic(auto, using(crate::proofs::TextGrows::text_more))]
+#[tactic(auto, using(act1_base::proofs::TextGrows::text_more))]
 fn write_latches(text: &mut Vec<u8>, blif: &Blif, latches: &[Latch]) -> Result<(), Memory>
     ensures { OnOk result (text.new.items ≡ text.old.items ++ text_of_lines (map (latch_words blif.now) latches.now)) }
 {
@@ -184,7 +144,7 @@ fn output_word(output: bool) -> &'static [u8]
 }
 
 // Adds the bytes of the marks.
-#[tactic(auto, using(crate::proofs::TextGrows::bytes_more))]
+#[tactic(auto, using(act1_base::proofs::TextGrows::bytes_more))]
 fn add_marks(text: &mut Vec<u8>, marks: &[Mark]) -> Result<(), Memory>
     ensures { OnOk result (text.new.items ≡ text.old.items ++ map mark_byte marks.now) }
 {
@@ -210,7 +170,7 @@ fn write_row(text: &mut Vec<u8>, output: bool, marks: &[Mark]) -> Result<(), Mem
 }
 
 // Adds the lines of the rows.
-#[tactic(auto, using(crate::proofs::TextGrows::text_more))]
+#[tactic(auto, using(act1_base::proofs::TextGrows::text_more))]
 fn write_rows(text: &mut Vec<u8>, output: bool, rows: &[Row]) -> Result<(), Memory>
     ensures { OnOk result (text.new.items ≡ text.old.items ++ text_of_lines (map (λ row. row_words output row.marks) rows.now)) }
 {
@@ -233,7 +193,7 @@ fn write_node(text: &mut Vec<u8>, blif: &Blif, node: &Node) -> Result<(), Memory
 }
 
 // Adds the lines of the nodes.
-#[tactic(auto, using(crate::proofs::TextGrows::lines_more))]
+#[tactic(auto, using(act1_base::proofs::TextGrows::lines_more))]
 fn write_nodes(text: &mut Vec<u8>, blif: &Blif, nodes: &[Node]) -> Result<(), Memory>
     ensures { OnOk result (text.new.items ≡ text.old.items ++ text_of_lines (flat_map (node_lines blif.now) nodes.now)) }
 {

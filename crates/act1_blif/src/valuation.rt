@@ -2,7 +2,7 @@ ghost use Rattle.std.specs.Prelude.{ℕ, Some, OnOk, slice_get, slice_set, ◌�
 ghost use Rattle.act1_order.specs.Order.{IsOrder};
 ghost use Rattle.act1_blif.specs.Run.{Fits, node_value};
 ghost use Rattle.act1_blif.specs.declared.blif.Node.{Node};
-ghost use Rattle.act1_blif.specs.Valuation.{AreEvaluated, first_node, reads_of};
+ghost use Rattle.act1_blif.specs.ValuationSteps.{AreEvaluated, first_node, reads_of};
 
 use crate::blif::{Blif, Node};
 use act1_base::{Items, Memory};

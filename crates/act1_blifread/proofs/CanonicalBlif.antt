@@ -12,13 +12,14 @@ use Rattle.act1_blif.specs.Names.{signal_name, signal_names}
 use Rattle.act1_blif.specs.Rules.{with_clock}
 use Rattle.act1_blif.specs.Text.{clock_lines, control_words, latch_words, node_lines, blif_lines}
 use Rattle.act1_bliftext.specs.Forms.{form_of, latch_control}
-use Rattle.act1_blifread.specs.CanonicalLaw.{CanonicalIsBlif}
+use Rattle.act1_blifread.specs.Laws.{CanonicalIsBlif}
 use Rattle.act1_blifread.specs.Parts.{all_of, output_names}
 use Rattle.act1_blifread.specs.Netlist.{IsNetlistOf, latches_of, name_at, nodes_of, signal_at}
 use Rattle.act1_blifread.proofs.FirstLines.{is_whole}
 use Rattle.act1_blifread.proofs.CanonicalNames.{is_in, all_passes}
 use Rattle.act1_blifread.proofs.CanonicalNet.{all_names, keeps, inputs_in}
-use Rattle.act1_blifread.proofs.CanonicalWords.{lines_from}
+use Rattle.act1_bliftext.specs.Laws.{WrittenLinesAreRead}
+use Rattle.act1_bliftext.specs.Lines.{lines_from}
 use Rattle.act1_blifread.proofs.CanonicalSaid.{HasNames, place_in}
 use Rattle.act1_blifread.proofs.CanonicalLines.{lines_both, all_both}
 use Rattle.act1_blifread.proofs.CanonicalReads.{blif_said}
@@ -81,8 +82,8 @@ module _ (net : Blif) where
   clock_back (Some clock) h = ap (λ (w : List ℕ). Some w) (name_back (used_first net) clock (and_parts (is_in (used_first net) clock) (list_all (is_in (used_first net)) (signal_names net)) h).0)
 
   -- the netlist is that of the statements
-  is_netlist : IsNetlistOf (statements_of net) net
-  is_netlist =
+  is_netlist : (law : WrittenLinesAreRead) → IsNetlistOf (statements_of net law) net
+  is_netlist law =
       let names = used_first net in
       let ss = blif_said net names in
       let signals = map (place_in names) (signal_names net) in
@@ -96,5 +97,5 @@ module _ (net : Blif) where
         outputs = sym (ap (λ (ns : List ℕ). map (signal_at ns) (all_of output_names ss)) (signals_are net names known) ∙ ap (map (signal_at signals)) (outputs_are net names) ∙ numbers_back net names known net.outputs (keeps net).outputs);
       }
 
-pub canonical_is_blif : CanonicalIsBlif
-canonical_is_blif net = record { statements = statements_of net; said = are_statements net; netlist = is_netlist net }
+pub canonical_is_blif : WrittenLinesAreRead → CanonicalIsBlif
+canonical_is_blif law net = record { statements = statements_of net law; said = are_statements net law; netlist = is_netlist net law }

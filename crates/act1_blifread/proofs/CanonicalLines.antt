@@ -5,15 +5,14 @@ use Rattle.std.specs.Fmt.{decimal}
 use Rattle.std.specs.List.{list_all, AllByRecursion}
 use Rattle.std.specs.Str.{bytes_eq}
 use Rattle.std.proofs.lemmas.Bool.{and_parts, and_from}
-use Rattle.act1_bliftext.specs.Lines.{Line, line_of}
+use Rattle.act1_bliftext.specs.Lines.{Line, line_of, lines_from, over}
 use Rattle.act1_bliftext.specs.Forms.{form_of, control_names, latch_names, latch_start}
-use Rattle.act1_bliftext.specs.Statements.{Says, control_number}
+use Rattle.act1_bliftext.specs.Statements.{Says, block_with, control_number, is_said}
 use Rattle.act1_bliftext.specs.Tables.{AreNumbersOf}
-use Rattle.act1_bliftext.specs.Places.{over}
 use Rattle.act1_bliftext.specs.declared.form.Form.TheVariants as form
 use Rattle.act1_bliftext.specs.declared.statement.NumberedStatement.{NumberedStatement}
 use Rattle.act1_bliftext.specs.declared.statement.Statement.TheVariants as said
-use Rattle.act1_bliftext.proofs.Blocks.{block_with}
+use Rattle.act1_bliftext.specs.Laws.{WrittenLinesAreRead}
 use Rattle.act1_blif.specs.declared.blif.Blif.{Blif}
 use Rattle.act1_blif.specs.declared.blif.Latch.{Latch}
 use Rattle.act1_blif.specs.declared.blif.Node.{Node}
@@ -22,9 +21,8 @@ use Rattle.act1_blif.specs.Rules.{is_latch}
 use Rattle.act1_blif.specs.Text.{node_lines, latch_words, control_words}
 use Rattle.act1_blifread.proofs.CanonicalNames.{is_in}
 use Rattle.act1_blifread.proofs.CanonicalNet.{all_names, count_of, keeps, named_in, clock_in}
-use Rattle.act1_blifread.proofs.CanonicalWords.{lines_from}
 use Rattle.act1_blifread.proofs.CanonicalFaults.{IsAbove, Pass, Passes, pass_none, pass_more, pass_both, free_latch_passes, clocked_latch_passes, init_word}
-use Rattle.act1_blifread.proofs.CanonicalSaid.{place_in, numbers_there, HasNames, Adds, adds_none, adds_both, adds_line}
+use Rattle.act1_blifread.proofs.CanonicalSaid.{place_in, numbers_there, HasNames, Adds, adds_none, adds_both, adds_block}
 
 -- lines after lines
 pub lines_both : (number : ℕ) (lines more : List (List (List ℕ))) → lines_from number (lines ++ more) ≡ lines_from number lines ++ lines_from (number + length lines) more
@@ -134,10 +132,10 @@ module _ (net : Blif) (names : List (List ℕ)) where
   latch_is number latch = refl
 
   -- the latches
-  pub reads_latches : (above : List Line) (number : ℕ) (latches : List Latch) → list_all (is_latch (count_of net)) latches ≡ true → list_all (is_in (all_names net)) (map (λ (latch : Latch). latch.name) latches) ≡ true → IsAbove (all_names net) above
+  pub reads_latches : (law : WrittenLinesAreRead) (above : List Line) (number : ℕ) (latches : List Latch) → list_all (is_latch (count_of net)) latches ≡ true → list_all (is_in (all_names net)) (map (λ (latch : Latch). latch.name) latches) ≡ true → IsAbove (all_names net) above
       → Reads (all_names net) names above (lines_from number (map (latch_words net) latches)) (latches_said net names number latches)
-  reads_latches above number [] fine named a = reads_none (all_names net) names above a
-  reads_latches above number (latch ∷ latches) fine named a =
+  reads_latches law above number [] fine named a = reads_none (all_names net) names above a
+  reads_latches law above number (latch ∷ latches) fine named a =
       let parts = and_parts (is_latch (count_of net) latch) (list_all (is_latch (count_of net)) latches) fine in
       let both = and_parts (is_in (all_names net) latch.name) (list_all (is_in (all_names net)) (map (λ (l : Latch). l.name) latches)) named in
       let line = latch_line number net.clock latch in
@@ -145,6 +143,6 @@ module _ (net : Blif) (names : List (List ℕ)) where
       reads_both (all_names net) names above (line ∷ []) (lines_from (number + 1) (map (latch_words net) latches)) (latch_said net names number latch ∷ []) (latches_said net names (number + 1) latches)
       (record {
         pass = pass_more (all_names net) above line [] p.faultless (pass_none (all_names net) (line ∷ above) p.next);
-        adds = λ h. adds_line names above line form.Latch (latch_said net names number latch) (latch_is number latch) refl refl (latch_says number latch parts.0 h.0);
+        adds = λ h. adds_block law names above line [] (latch_said net names number latch) (ap is_said (latch_is number latch)) refl (latch_says number latch parts.0 h.0);
       })
-      (reads_latches (line ∷ above) (number + 1) latches parts.1 both.1)
+      (reads_latches law (line ∷ above) (number + 1) latches parts.1 both.1)

@@ -20,11 +20,11 @@ same_name v w h = (bytes_eq-Decides v w).0 h
 pub name_same : (w : List ℕ) → bytes_eq w w ≡ true
 name_same w = (bytes_eq-Decides w w).1 refl
 
-or_left : (a b : Bool) → a ≡ true → (a || b) ≡ true
+pub or_left : (a b : Bool) → a ≡ true → (a || b) ≡ true
 or_left true b h = refl
 or_left false b h = cc
 
-or_right : (a b : Bool) → b ≡ true → (a || b) ≡ true
+pub or_right : (a b : Bool) → b ≡ true → (a || b) ≡ true
 or_right true b h = refl
 or_right false b h = h
 

@@ -13,7 +13,7 @@ use Rattle.act1_blif.specs.declared.blif.Latch.{Latch}
 use Rattle.act1_blif.specs.declared.blif.Node.{Node}
 use Rattle.act1_blif.specs.Names.{signal_name, signal_names}
 use Rattle.act1_blif.specs.Rules.{are_names, is_latch, is_node, with_clock}
-use Rattle.act1_blifread.proofs.CanonicalNames.{is_in, name_same}
+use Rattle.act1_blifread.proofs.CanonicalNames.{is_in, name_same, or_left, or_right}
 
 -- the names of clock and signals
 abbrev pub all_names : Blif → List (List ℕ)
@@ -60,14 +60,6 @@ keeps net =
       outputs_apart = o.1;
       count = omega (arith, length-append (net.inputs ++ latch_names) node_names, length-append net.inputs latch_names, length-map net.latches (λ (latch : Latch). latch.name), length-map net.nodes (λ (node : Node). node.name));
     }
-
-or_left : (a b : Bool) → a ≡ true → (a || b) ≡ true
-or_left true b h = refl
-or_left false b h = cc
-
-or_right : (a b : Bool) → b ≡ true → (a || b) ≡ true
-or_right true b h = refl
-or_right false b h = h
 
 -- a name of a list is in it
 pub read_in : (names : List (List ℕ)) (s : ℕ) → s < length names → is_in names (get_or names s []) ≡ true

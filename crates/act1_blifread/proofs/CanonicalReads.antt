@@ -10,21 +10,17 @@ use Rattle.std.proofs.lemmas.List.Folds.{list_all-append}
 use Rattle.act1_logic.specs.declared.cover.Cover.{Cover}
 use Rattle.act1_logic.specs.declared.cover.Mark.{Mark}
 use Rattle.act1_logic.specs.declared.cover.Row.{Row}
-use Rattle.act1_bliftext.specs.Lines.{Line, line_of}
+use Rattle.act1_bliftext.specs.Lines.{Line, line_of, lines_from, over}
 use Rattle.act1_bliftext.specs.Forms.{form_of}
 use Rattle.act1_bliftext.specs.Faults.{first_fault, fault_of, fault_at, is_bad_word, is_long, is_later, names_above}
-use Rattle.act1_bliftext.specs.Reading.{place_fault}
-use Rattle.act1_bliftext.specs.Statements.{Says, AreSaid, blocks_above}
+use Rattle.act1_bliftext.specs.Statements.{Says, AreSaid, block_with, blocks_above, is_said}
 use Rattle.act1_bliftext.specs.Tables.{AreNumbersOf}
-use Rattle.act1_bliftext.specs.Places.{over}
 use Rattle.act1_bliftext.specs.declared.fault.BlifKind.{BlifKind}
 use Rattle.act1_bliftext.specs.declared.fault.BlifKind.TheVariants as kind
 use Rattle.act1_bliftext.specs.declared.form.Form.TheVariants as form
 use Rattle.act1_bliftext.specs.declared.statement.NumberedStatement.{NumberedStatement}
 use Rattle.act1_bliftext.specs.declared.statement.Statement.TheVariants as said
-use Rattle.act1_bliftext.proofs.Blocks.{block_with}
-use Rattle.act1_bliftext.proofs.FaultParts.{of_no_row}
-use Rattle.act1_bliftext.proofs.WholeLines.{fault_later}
+use Rattle.act1_bliftext.specs.Laws.{WrittenLinesAreRead}
 use Rattle.act1_blif.specs.declared.blif.Blif.{Blif}
 use Rattle.act1_blif.specs.declared.blif.Node.{Node}
 use Rattle.act1_blif.specs.Names.{signal_name}
@@ -32,9 +28,8 @@ use Rattle.act1_blif.specs.Rules.{is_node}
 use Rattle.act1_blif.specs.Text.{row_words, node_lines, latch_words, clock_lines, blif_lines}
 use Rattle.act1_blifread.proofs.CanonicalNames.{is_in}
 use Rattle.act1_blifread.proofs.CanonicalNet.{all_names, count_of, keeps, all_named_in, inputs_in, latches_in, nodes_in, clock_in}
-use Rattle.act1_blifread.proofs.CanonicalWords.{lines_from}
-use Rattle.act1_blifread.proofs.CanonicalFaults.{IsAbove, pass_none, pass_more, name_fine, inputs_pass, outputs_pass, clock_passes, names_pass, row_line, row_lines, IsUnder, rows_pass}
-use Rattle.act1_blifread.proofs.CanonicalSaid.{place_in, numbers_there, HasNames, Adds, adds_both, adds_line, adds_nothing, adds_names, rows_back, output_back, are_rows}
+use Rattle.act1_blifread.proofs.CanonicalFaults.{IsAbove, pass_none, pass_more, name_fine, inputs_pass, outputs_pass, clock_passes, names_pass, line_free, row_line, row_lines, IsUnder, rows_pass}
+use Rattle.act1_blifread.proofs.CanonicalSaid.{place_in, numbers_there, HasNames, Adds, adds_both, adds_block, adds_nothing, rows_back, output_back, rows_are}
 use Rattle.act1_blifread.proofs.CanonicalLines.{lines_both, all_both, Reads, reads_none, reads_both, latches_said, node_said, nodes_said, reads_latches}
 
 -- the words of rows make the lines of rows
@@ -107,9 +102,9 @@ module _ (net : Blif) (names : List (List ℕ)) where
         );
       }
 
-  reads_node : (above : List Line) (number : ℕ) (node : Node) → is_node (count_of net) node ≡ true → is_in (all_names net) node.name ≡ true → IsAbove (all_names net) above
+  reads_node : (law : WrittenLinesAreRead) (above : List Line) (number : ℕ) (node : Node) → is_node (count_of net) node ≡ true → is_in (all_names net) node.name ≡ true → IsAbove (all_names net) above
       → Reads (all_names net) names above (lines_from number (node_lines net node)) (node_said net names number node ∷ [])
-  reads_node above number node fine named a =
+  reads_node law above number node fine named a =
       let parts = and_parts (eqb node.cover.width (length node.inputs)) (list_all (λ s. nat_lt s (count_of net)) node.inputs) fine in
       let wide = same_number node.cover.width (length node.inputs) parts.0 in
       let cover = keeps_cover node.cover in
@@ -125,7 +120,7 @@ module _ (net : Blif) (names : List (List ℕ)) where
       subst (λ (ls : List Line). Reads all names above ls (node_said net names number node ∷ [])) (sym (node_words_are number node))
       (record {
         pass = pass_more all above line rows p.faultless q;
-        adds = λ h. adds_names names above line rows (node_said net names number node) (node_is number node) (are_rows (number + 1) node.cover.output node.cover.rows) (node_says number node wide h.0);
+        adds = λ h. adds_block law names above line rows (node_said net names number node) (ap is_said (node_is number node)) (rows_are (number + 1) node.cover.output node.cover.rows) (node_says number node wide h.0);
       })
 
   -- lines after lines
@@ -137,15 +132,15 @@ module _ (net : Blif) (names : List (List ℕ)) where
       (reads_both (all_names net) names above (lines_from number lines) (lines_from (number + length lines) more) new next p q)
 
   -- the nodes
-  reads_nodes : (above : List Line) (number : ℕ) (nodes : List Node) → list_all (is_node (count_of net)) nodes ≡ true → list_all (is_in (all_names net)) (map (λ (node : Node). node.name) nodes) ≡ true → IsAbove (all_names net) above
+  reads_nodes : (law : WrittenLinesAreRead) (above : List Line) (number : ℕ) (nodes : List Node) → list_all (is_node (count_of net)) nodes ≡ true → list_all (is_in (all_names net)) (map (λ (node : Node). node.name) nodes) ≡ true → IsAbove (all_names net) above
       → Reads (all_names net) names above (lines_from number (flat_map (node_lines net) nodes)) (nodes_said net names number nodes)
-  reads_nodes above number [] fine named a = reads_none (all_names net) names above a
-  reads_nodes above number (node ∷ nodes) fine named a =
+  reads_nodes law above number [] fine named a = reads_none (all_names net) names above a
+  reads_nodes law above number (node ∷ nodes) fine named a =
       let parts = and_parts (is_node (count_of net) node) (list_all (is_node (count_of net)) nodes) fine in
       let both = and_parts (is_in (all_names net) node.name) (list_all (is_in (all_names net)) (map (λ (n : Node). n.name) nodes)) named in
       reads_more above number (node_lines net node) (flat_map (node_lines net) nodes) (node_said net names number node ∷ []) (nodes_said net names (number + length (node_lines net node)) nodes)
-      (reads_node above number node parts.0 both.0 a)
-      (reads_nodes (over (lines_from number (node_lines net node)) above) (number + length (node_lines net node)) nodes parts.1 both.1)
+      (reads_node law above number node parts.0 both.0 a)
+      (reads_nodes law (over (lines_from number (node_lines net node)) above) (number + length (node_lines net node)) nodes parts.1 both.1)
 
   -- the first lines
   abbrev model_line : Line
@@ -167,18 +162,17 @@ module _ (net : Blif) (names : List (List ℕ)) where
   unfolding form_of
   model_free =
       let fine = name_fine net.model (keeps net).model in
-      of_no_row [] model_line form.Model refl tt (or_from (is_bad_word net.model) false fine.bad refl)
-      ∙ ap (λ (b : Bool). cond b (Some kind.Limit) None) (or_from (is_long net.model) false fine.short refl)
+      line_free [] model_line form.Model refl (or_from (is_bad_word net.model) false fine.bad refl) refl refl refl refl refl refl refl (or_from (is_long net.model) false fine.short refl)
 
   model_above : IsAbove (all_names net) (model_line ∷ [])
   unfolding form_of
   model_above = record { names = refl; apart = refl; running = refl; later = refl }
 
-  reads_model : Reads (all_names net) names [] (model_line ∷ []) []
+  reads_model : (law : WrittenLinesAreRead) → Reads (all_names net) names [] (model_line ∷ []) []
   unfolding form_of
-  reads_model = record {
+  reads_model law = record {
     pass = pass_more (all_names net) [] model_line [] model_free (pass_none (all_names net) (model_line ∷ []) model_above);
-    adds = λ h. adds_nothing names [] model_line form.Model refl refl refl;
+    adds = λ h. adds_nothing law names [] model_line refl refl;
   }
 
   abbrev pub inputs_said : NumberedStatement
@@ -191,36 +185,36 @@ module _ (net : Blif) (names : List (List ℕ)) where
   clock_said None = []
   clock_said (Some clock) = (record { line = 4; statement = said.Clock (place_in names clock ∷ []) }) ∷ []
 
-  reads_inputs : (above : List Line) → IsAbove (all_names net) above → Reads (all_names net) names above (inputs_line ∷ []) (inputs_said ∷ [])
+  reads_inputs : (law : WrittenLinesAreRead) (above : List Line) → IsAbove (all_names net) above → Reads (all_names net) names above (inputs_line ∷ []) (inputs_said ∷ [])
   unfolding form_of
-  reads_inputs above a =
+  reads_inputs law above a =
       let k = keeps net in
       let p = inputs_pass (all_names net) k.fit k.few above 2 net.inputs (inputs_in net) a in
       record {
         pass = pass_more (all_names net) above inputs_line [] p.faultless (pass_none (all_names net) (inputs_line ∷ above) p.next);
-        adds = λ h. adds_line names above inputs_line form.Inputs inputs_said refl refl refl (record { line = refl; form = refl; numbers = numbers_there names net.inputs h.0; beside = tt });
+        adds = λ h. adds_block law names above inputs_line [] inputs_said refl refl (record { line = refl; form = refl; numbers = numbers_there names net.inputs h.0; beside = tt });
       }
 
-  reads_outputs : (above : List Line) → IsAbove (all_names net) above → Reads (all_names net) names above (outputs_line ∷ []) (outputs_said ∷ [])
+  reads_outputs : (law : WrittenLinesAreRead) (above : List Line) → IsAbove (all_names net) above → Reads (all_names net) names above (outputs_line ∷ []) (outputs_said ∷ [])
   unfolding form_of
-  reads_outputs above a =
+  reads_outputs law above a =
       let k = keeps net in
       let words = map (signal_name net) net.outputs in
       let p = outputs_pass (all_names net) k.fit k.few above 3 words (all_named_in net net.outputs k.outputs) a in
       record {
         pass = pass_more (all_names net) above outputs_line [] p.faultless (pass_none (all_names net) (outputs_line ∷ above) p.next);
-        adds = λ h. adds_line names above outputs_line form.Outputs outputs_said refl refl refl (record { line = refl; form = refl; numbers = numbers_there names words h.0; beside = tt });
+        adds = λ h. adds_block law names above outputs_line [] outputs_said refl refl (record { line = refl; form = refl; numbers = numbers_there names words h.0; beside = tt });
       }
 
-  reads_clock : (above : List Line) (clock : Option (List ℕ)) → net.clock ≡ clock → IsAbove (all_names net) above → Reads (all_names net) names above (lines_from 4 (clock_lines clock)) (clock_said clock)
+  reads_clock : (law : WrittenLinesAreRead) (above : List Line) (clock : Option (List ℕ)) → net.clock ≡ clock → IsAbove (all_names net) above → Reads (all_names net) names above (lines_from 4 (clock_lines clock)) (clock_said clock)
   unfolding form_of
-  reads_clock above None is a = reads_none (all_names net) names above a
-  reads_clock above (Some clock) is a =
+  reads_clock law above None is a = reads_none (all_names net) names above a
+  reads_clock law above (Some clock) is a =
       let k = keeps net in
       let p = clock_passes (all_names net) k.fit k.few above 4 (clock ∷ []) (and_from (is_in (all_names net) clock) true (clock_in net clock is) refl) a in
       record {
         pass = pass_more (all_names net) above (clock_line clock) [] p.faultless (pass_none (all_names net) (clock_line clock ∷ above) p.next);
-        adds = λ h. adds_line names above (clock_line clock) form.Clock (record { line = 4; statement = said.Clock (place_in names clock ∷ []) }) refl refl refl
+        adds = λ h. adds_block law names above (clock_line clock) [] (record { line = 4; statement = said.Clock (place_in names clock ∷ []) }) refl refl
             (record { line = refl; form = refl; numbers = numbers_there names (clock ∷ []) h.0; beside = tt });
       }
 
@@ -230,14 +224,14 @@ module _ (net : Blif) (names : List (List ℕ)) where
   abbrev pub head_said : List NumberedStatement
   head_said = inputs_said ∷ outputs_said ∷ clock_said net.clock
 
-  reads_head : Reads (all_names net) names [] (lines_from 1 head_words) head_said
-  reads_head =
+  reads_head : (law : WrittenLinesAreRead) → Reads (all_names net) names [] (lines_from 1 head_words) head_said
+  reads_head law =
       let all = all_names net in
       let clocks = lines_from 4 (clock_lines net.clock) in
-      reads_both all names [] (model_line ∷ []) (inputs_line ∷ outputs_line ∷ clocks) [] head_said reads_model
-      (λ a. reads_both all names (model_line ∷ []) (inputs_line ∷ []) (outputs_line ∷ clocks) (inputs_said ∷ []) (outputs_said ∷ clock_said net.clock) (reads_inputs (model_line ∷ []) a)
-      (λ b. reads_both all names (inputs_line ∷ model_line ∷ []) (outputs_line ∷ []) clocks (outputs_said ∷ []) (clock_said net.clock) (reads_outputs (inputs_line ∷ model_line ∷ []) b)
-      (λ d. reads_clock (outputs_line ∷ inputs_line ∷ model_line ∷ []) net.clock refl d)))
+      reads_both all names [] (model_line ∷ []) (inputs_line ∷ outputs_line ∷ clocks) [] head_said (reads_model law)
+      (λ a. reads_both all names (model_line ∷ []) (inputs_line ∷ []) (outputs_line ∷ clocks) (inputs_said ∷ []) (outputs_said ∷ clock_said net.clock) (reads_inputs law (model_line ∷ []) a)
+      (λ b. reads_both all names (inputs_line ∷ model_line ∷ []) (outputs_line ∷ []) clocks (outputs_said ∷ []) (clock_said net.clock) (reads_outputs law (inputs_line ∷ model_line ∷ []) b)
+      (λ d. reads_clock law (outputs_line ∷ inputs_line ∷ model_line ∷ []) net.clock refl d)))
 
   -- all lines but `.end`
   abbrev pub latch_lines_of : List (List (List ℕ))
@@ -250,18 +244,18 @@ module _ (net : Blif) (names : List (List ℕ)) where
   abbrev pub blif_said : List NumberedStatement
   blif_said = head_said ++ latches_said net names (1 + length head_words) net.latches ++ nodes_said net names (1 + length (head_words ++ latch_lines_of)) net.nodes
 
-  pub reads_body : Reads (all_names net) names [] (lines_from 1 body_words) blif_said
-  reads_body =
+  pub reads_body : (law : WrittenLinesAreRead) → Reads (all_names net) names [] (lines_from 1 body_words) blif_said
+  reads_body law =
       let k = keeps net in
       reads_more [] 1 (head_words ++ latch_lines_of) (flat_map (node_lines net) net.nodes) (head_said ++ latches_said net names (1 + length head_words) net.latches) (nodes_said net names (1 + length (head_words ++ latch_lines_of)) net.nodes)
-      (reads_more [] 1 head_words latch_lines_of head_said (latches_said net names (1 + length head_words) net.latches) reads_head
-      (reads_latches net names (over (lines_from 1 head_words) []) (1 + length head_words) net.latches k.latches (latches_in net)))
-      (reads_nodes (over (lines_from 1 (head_words ++ latch_lines_of)) []) (1 + length (head_words ++ latch_lines_of)) net.nodes k.nodes (nodes_in net))
+      (reads_more [] 1 head_words latch_lines_of head_said (latches_said net names (1 + length head_words) net.latches) (reads_head law)
+      (reads_latches net names law (over (lines_from 1 head_words) []) (1 + length head_words) net.latches k.latches (latches_in net)))
+      (reads_nodes law (over (lines_from 1 (head_words ++ latch_lines_of)) []) (1 + length (head_words ++ latch_lines_of)) net.nodes k.nodes (nodes_in net))
 
   end_free : (above : List Line) (number : ℕ) → IsAbove (all_names net) above → first_fault above (end_line number ∷ []) ≡ None
   unfolding form_of
   end_free above number a =
-      let is : fault_of above (end_line number) ≡ None = of_no_row above (end_line number) form.End refl tt refl ∙ ap (λ (b : Bool). place_fault form.End (is_later above) b (names_above above) []) a.running in
+      let is : fault_of above (end_line number) ≡ None = line_free above (end_line number) form.End refl refl refl refl refl refl refl refl a.running refl in
       ap (λ (o : Option BlifKind). option_or (fault_at (end_line number) o) None) is
 
   abbrev pub all_lines : List Line
@@ -271,21 +265,22 @@ module _ (net : Blif) (names : List (List ℕ)) where
   all_are = lines_both 1 body_words ((codes ".end" ∷ []) ∷ [])
 
   -- no line has a fault
-  pub no_fault : first_fault [] all_lines ≡ None
-  no_fault =
+  pub no_fault : (law : WrittenLinesAreRead) → first_fault [] all_lines ≡ None
+  no_fault law =
+      let pass = (reads_body law).pass in
       ap (first_fault []) all_are
-      ∙ fault_later [] (lines_from 1 body_words) (end_line (1 + length body_words) ∷ []) reads_body.pass.faultless
-      ∙ end_free (over (lines_from 1 body_words) []) (1 + length body_words) reads_body.pass.next
+      ∙ pass.free (end_line (1 + length body_words) ∷ [])
+      ∙ end_free (over (lines_from 1 body_words) []) (1 + length body_words) pass.next
 
-  end_adds : (above : List Line) (number : ℕ) → Adds names above (end_line number ∷ []) []
+  end_adds : (law : WrittenLinesAreRead) (above : List Line) (number : ℕ) → Adds names above (end_line number ∷ []) []
   unfolding form_of
-  end_adds above number = adds_nothing names above (end_line number) form.End refl refl refl
+  end_adds law above number = adds_nothing law names above (end_line number) refl refl
 
   -- and they say the statements
-  pub all_said : AllByRecursion (HasNames names) all_lines → AreSaid names (blocks_above (over all_lines [])) blif_said
-  all_said h =
+  pub all_said : (law : WrittenLinesAreRead) → AllByRecursion (HasNames names) all_lines → AreSaid names (blocks_above (over all_lines [])) blif_said
+  all_said law h =
       let body = lines_from 1 body_words in
       let last = end_line (1 + length body_words) ∷ [] in
       let parts = all_both (HasNames names) body last (subst (AllByRecursion (HasNames names)) all_are h) in
-      let both = adds_both names [] body last blif_said [] (reads_body.adds parts.0) (end_adds (over body []) (1 + length body_words)) in
+      let both = adds_both names [] body last blif_said [] ((reads_body law).adds parts.0) (end_adds law (over body []) (1 + length body_words)) in
       subst (λ (ls : List Line). AreSaid names (blocks_above (over ls [])) blif_said) (sym all_are) (subst (AreSaid names (blocks_above (over (body ++ last) []))) (append-nil blif_said) (both [] tt))

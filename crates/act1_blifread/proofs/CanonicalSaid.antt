@@ -8,21 +8,17 @@ use Rattle.std.proofs.lemmas.List.{append-nil}
 use Rattle.act1_logic.specs.declared.cover.Mark.{Mark}
 use Rattle.act1_logic.specs.declared.cover.Mark.TheVariants.{Zero, One, Dash}
 use Rattle.act1_logic.specs.declared.cover.Row.{Row}
-use Rattle.act1_bliftext.specs.Lines.{Line}
+use Rattle.act1_bliftext.specs.Lines.{Line, over}
 use Rattle.act1_bliftext.specs.Forms.{form_of, names_in}
 use Rattle.act1_bliftext.specs.Rows.{row_marks, output_of, mark_of}
 use Rattle.act1_bliftext.specs.Tables.{AreNumbersOf}
-use Rattle.act1_bliftext.specs.Faults.{is_row_form, head_above, rows_above, names_above}
-use Rattle.act1_bliftext.specs.Statements.{Block, Says, AreSaid, block_of, blocks_above, earlier_blocks, is_said, marks_in}
-use Rattle.act1_bliftext.specs.Places.{over}
-use Rattle.act1_bliftext.specs.declared.form.Form.{Form}
-use Rattle.act1_bliftext.specs.declared.form.Form.TheVariants as form
+use Rattle.act1_bliftext.specs.Faults.{is_row_form, names_above}
+use Rattle.act1_bliftext.specs.Statements.{Says, AreSaid, block_with, blocks_above, is_said, marks_in}
 use Rattle.act1_bliftext.specs.declared.statement.NumberedStatement.{NumberedStatement}
-use Rattle.act1_bliftext.proofs.Blocks.{said_push, earlier_next, head_next, rows_next, blocks_next, block_with}
-use Rattle.act1_bliftext.proofs.WholeLines.{over_more}
+use Rattle.act1_bliftext.specs.Laws.{WrittenLinesAreRead, are_rows}
 use Rattle.act1_blif.specs.Text.{mark_byte}
 use Rattle.act1_blifread.proofs.CanonicalNames.{is_in, same_name, in_kept, in_added}
-use Rattle.act1_blifread.proofs.CanonicalFaults.{row_line, row_lines, row_says}
+use Rattle.act1_blifread.proofs.CanonicalFaults.{over_both, row_form, row_line, row_lines, row_says}
 
 -- the first place of a name among others
 abbrev pub place_in : List (List ℕ) → List ℕ → ℕ
@@ -76,46 +72,17 @@ adds_none names above ss h = subst (AreSaid names (blocks_above above)) (sym (ap
 
 pub adds_both : (names : List (List ℕ)) (above lines more : List Line) (new next : List NumberedStatement) → Adds names above lines new → Adds names (over lines above) more next → Adds names above (lines ++ more) (new ++ next)
 adds_both names above lines more new next p q ss h =
-    subst (λ (ls : List Line). AreSaid names (blocks_above ls) (ss ++ (new ++ next))) (sym (over_more lines more above))
+    subst (λ (ls : List Line). AreSaid names (blocks_above ls) (ss ++ (new ++ next))) (sym (over_both lines more above))
     (subst (AreSaid names (blocks_above (over more (over lines above)))) (append_assoc ss new next) (q (ss ++ new) (p ss h)))
 
--- a line that says something by itself
-pub adds_line : (names : List (List ℕ)) (above : List Line) (line : Line) (f : Form) (numbered : NumberedStatement) → form_of line.first ≡ f → is_row_form f ≡ false → is_said f ≡ true
-    → Says names (block_with line []) numbered → Adds names above (line ∷ []) (numbered ∷ [])
-adds_line names above line f numbered is free says_it s ss h =
-    let blocks : blocks_above (line ∷ above) ≡ blocks_above above ++ block_with line [] ∷ [] = blocks_next above line f is free ∙ ap (λ (b : Bool). blocks_above above ++ cond b (block_with line [] ∷ []) []) says_it in
-    subst (λ (bs : List Block). AreSaid names bs (ss ++ numbered ∷ [])) (sym blocks) (said_push names (blocks_above above) ss (block_with line []) numbered h s)
+module _ (law : WrittenLinesAreRead) (names : List (List ℕ)) (above : List Line) (line : Line) where
+  -- a line that says something, with its rows
+  pub adds_block : (rows : List Line) (numbered : NumberedStatement) → is_said (form_of line.first) ≡ true → are_rows rows ≡ true → Says names (block_with line rows) numbered → Adds names above (line ∷ rows) (numbered ∷ [])
+  adds_block rows numbered says_it rows_are s ss h = law.said names above (block_with line rows) ss numbered says_it rows_are h s
 
--- a line that says nothing of the netlist
-pub adds_nothing : (names : List (List ℕ)) (above : List Line) (line : Line) (f : Form) → form_of line.first ≡ f → is_row_form f ≡ false → is_said f ≡ false → Adds names above (line ∷ []) []
-adds_nothing names above line f is free quiet ss h =
-    let blocks : blocks_above (line ∷ above) ≡ blocks_above above = blocks_next above line f is free ∙ ap (λ (b : Bool). blocks_above above ++ cond b (block_with line [] ∷ []) []) quiet ∙ append-nil (blocks_above above) in
-    subst (λ (bs : List Block). AreSaid names bs (ss ++ [])) (sym blocks) (adds_none names above ss h)
-
--- rows under the head of the last block
-abbrev pub AreRows : List Line → Type 0
-AreRows rows = AllByRecursion (λ (row : Line). form_of row.first ≡ form.Row) rows
-
-rows_under : (rows above before : List Line) (head : Line) (earlier : List Block) → AreRows rows → head_above above ≡ Some head → form_of head.first ≡ form.Names → rows_above above ≡ before → earlier_blocks above ≡ earlier
-    → blocks_above (over rows above) ≡ earlier ++ block_with head (before ++ rows) ∷ []
-rows_under [] above before head earlier rs is form_is rows blocks =
-    ap (λ (bs : List Block). bs ++ block_of (head_above above) (rows_above above)) blocks
-    ∙ ap (λ (o : Option Line). earlier ++ block_of o (rows_above above)) is
-    ∙ ap (λ (f : Form). earlier ++ cond (is_said f) (block_with head (rows_above above) ∷ []) []) form_is
-    ∙ ap (λ (ls : List Line). earlier ++ block_with head ls ∷ []) (rows ∙ sym (append-nil before))
-rows_under (row ∷ rows) above before head earlier rs is form_is so_far blocks =
-    rows_under rows (row ∷ above) (before ++ row ∷ []) head earlier rs.1
-    (ap (λ (f : Form). cond (is_row_form f) (head_above above) (Some row)) rs.0 ∙ is) form_is
-    (ap (λ (f : Form). cond (is_row_form f) (rows_above above ++ row ∷ []) []) rs.0 ∙ ap (λ (ls : List Line). ls ++ row ∷ []) so_far)
-    (ap (λ (f : Form). cond (is_row_form f) (earlier_blocks above) (blocks_above above)) rs.0 ∙ blocks)
-    ∙ ap (λ (ls : List Line). earlier ++ block_with head ls ∷ []) (append_assoc before (row ∷ []) rows)
-
--- a `.names` with its rows
-pub adds_names : (names : List (List ℕ)) (above : List Line) (line : Line) (rows : List Line) (numbered : NumberedStatement) → form_of line.first ≡ form.Names → AreRows rows
-    → Says names (block_with line rows) numbered → Adds names above (line ∷ rows) (numbered ∷ [])
-adds_names names above line rows numbered is rs s ss h =
-    let blocks = rows_under rows (line ∷ above) [] line (blocks_above above) rs (head_next above line form.Names is refl) is (rows_next above line form.Names is refl) (earlier_next above line form.Names is refl) in
-    subst (λ (bs : List Block). AreSaid names bs (ss ++ numbered ∷ [])) (sym blocks) (said_push names (blocks_above above) ss (block_with line rows) numbered h s)
+  -- a line that says nothing of the netlist
+  pub adds_nothing : is_row_form (form_of line.first) ≡ false → is_said (form_of line.first) ≡ false → Adds names above (line ∷ []) []
+  adds_nothing free quiet ss h = subst (AreSaid names (blocks_above (line ∷ above))) (sym (append-nil ss)) (law.quiet names above line ss free quiet h)
 
 -- the marks of row lines are those of the rows
 mark_back : (mark : Mark) → mark_of (mark_byte mark) ≡ mark
@@ -141,14 +108,8 @@ pub output_back : (number : ℕ) (output : Bool) (rows : List Row) → (rows ≡
 output_back number output [] h = h refl
 output_back number output (row ∷ rows) h = sym (row_says number output row.marks)
 
-row_is : (number : ℕ) (output : Bool) (marks : List Mark) → form_of (row_line number output marks).first ≡ form.Row
-unfolding form_of
-row_is number true [] = refl
-row_is number false [] = refl
-row_is number output (Zero ∷ marks) = refl
-row_is number output (One ∷ marks) = refl
-row_is number output (Dash ∷ marks) = refl
-
-pub are_rows : (number : ℕ) (output : Bool) (rows : List Row) → AreRows (row_lines number output rows)
-are_rows number output [] = tt
-are_rows number output (row ∷ rows) = (row_is number output row.marks, are_rows (number + 1) output rows)
+pub rows_are : (number : ℕ) (output : Bool) (rows : List Row) → are_rows (row_lines number output rows) ≡ true
+rows_are number output [] = refl
+rows_are number output (row ∷ rows) =
+    let line = row_line number output row.marks in
+    and_from (is_row_form (form_of line.first)) (are_rows (row_lines (number + 1) output rows)) (ap is_row_form (row_form number output row.marks)) (rows_are (number + 1) output rows)

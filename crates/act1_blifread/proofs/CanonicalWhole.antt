@@ -29,20 +29,20 @@ use Rattle.act1_blifread.proofs.CanonicalReads.{head_said, head_words, latch_lin
 use Rattle.act1_blifread.proofs.CanonicalPlaces.{place_among, places_differ}
 use Rattle.act1_blifread.proofs.CanonicalParts.{latch_outputs, node_outputs, given_are, outputs_are, clock_is, signals_known, signals_apart, no_clock, number_back}
 
--- names that differ in the whole differ up to each statement
-not_twice : (ss : List NumberedStatement) → are_different_numbers (all_of given_names ss) ≡ true → are_different_numbers (all_of output_names ss) ≡ true → IsFree ss Twice
-not_twice ss given outputs k low has = true≢false (sym has ∙ both (part given_names given) (part output_names outputs))
+-- names that differ in the whole differ in the first statements
+pub different_first : (names : Statement → List ℕ) (ss : List NumberedStatement) (n : ℕ) → are_different_numbers (all_of names ss) ≡ true → are_different_numbers (all_of names (take n ss)) ≡ true
+different_first names ss n e = by (are_different_numbers (all_of names (take n ss))) refl
   where
-    part : (names : Statement → List ℕ) → are_different_numbers (all_of names ss) ≡ true → are_different_numbers (all_of names (take (k + 1) ss)) ≡ true
-    part names e = by (are_different_numbers (all_of names (take (k + 1) ss))) refl
-      where
-        whole_is : all_of names (take (k + 1) ss) ++ all_of names (drop (k + 1) ss) ≡ all_of names ss
-        whole_is = sym (flat_map-append (λ (n : NumberedStatement). names n.statement) (take (k + 1) ss) (drop (k + 1) ss)) ∙ ap (all_of names) (take-append-drop (k + 1) ss)
+    whole_is : all_of names (take n ss) ++ all_of names (drop n ss) ≡ all_of names ss
+    whole_is = sym (flat_map-append (λ (s : NumberedStatement). names s.statement) (take n ss) (drop n ss)) ∙ ap (all_of names) (take-append-drop n ss)
 
-        by : (b : Bool) → are_different_numbers (all_of names (take (k + 1) ss)) ≡ b → b ≡ true
-        by true f = refl
-        by false f = absurd (false≢true (sym (different_front (all_of names (take (k + 1) ss)) (all_of names (drop (k + 1) ss)) f) ∙ ap are_different_numbers whole_is ∙ e))
+    by : (b : Bool) → are_different_numbers (all_of names (take n ss)) ≡ b → b ≡ true
+    by true f = refl
+    by false f = absurd (false≢true (sym (different_front (all_of names (take n ss)) (all_of names (drop n ss)) f) ∙ ap are_different_numbers whole_is ∙ e))
 
+not_twice : (ss : List NumberedStatement) → are_different_numbers (all_of given_names ss) ≡ true → are_different_numbers (all_of output_names ss) ≡ true → IsFree ss Twice
+not_twice ss given outputs k low has = true≢false (sym has ∙ both (different_first given_names ss (k + 1) given) (different_first output_names ss (k + 1) outputs))
+  where
     both : are_different_numbers (all_of given_names (take (k + 1) ss)) ≡ true → are_different_numbers (all_of output_names (take (k + 1) ss)) ≡ true → is_twice (take (k + 1) ss) ≡ false
     both a b = ap (λ (c : Bool). not (c && are_different_numbers (all_of output_names (take (k + 1) ss)))) a ∙ ap not b
 

@@ -17,7 +17,7 @@ use Rattle.act1_order.specs.Order.{OnRing}
 use Rattle.act1_blifread.specs.Parts.{all_of, clock_of, data_inputs, node_names, output_names, signals_of}
 use Rattle.act1_blifread.specs.Faults.{HasFault, IsFirstAt, IsFree, IsWhole, Passes, WholeBad, is_clock_used, is_node, is_second_clock, is_twice, is_undriven, node_graph, whole_kinds}
 use Rattle.act1_blifread.specs.Netlist.{latches_of, name_at, nodes_of, signal_at}
-use Rattle.act1_blifread.specs.Exact.{HasNetlist, HasWholeFault, NetlistIsOne, NetlistOrFault, NetlistWithoutFault, WholeFaultIsOne}
+use Rattle.act1_blifread.specs.Laws.{HasNetlist, HasWholeFault, NetlistIsOne, NetlistOrFault, NetlistWithoutFault, WholeFaultIsOne}
 use Rattle.act1_blifread.proofs.BuiltNetlists.{built_valid}
 use Rattle.act1_blifread.proofs.FirstLines.{twice_is_bad, clocks_are_bad, undriven_is_bad, clock_used_is_bad, loop_is_bad, is_whole}
 use Rattle.act1_blifread.proofs.NodeGraphs.{graph_inside, place_within}

@@ -14,7 +14,7 @@ use Rattle.act1_bliftext.specs.declared.statement.Statement.{Statement}
 use Rattle.act1_bliftext.specs.declared.statements.Statements.{Statements}
 use Rattle.act1_blifread.specs.Parts.{clock_of}
 use Rattle.act1_blifread.specs.Faults.{IsFirstAt, IsFree, IsWhole, Passes, WholeBad, is_second_clock, is_undriven, is_clock_used, whole_kinds}
-use Rattle.act1_blifread.specs.Steps.{IsFirstLine, Refuses, StopsAt, first_line}
+use Rattle.act1_blifread.specs.NetlistSteps.{IsFirstLine, Refuses, StopsAt, first_line}
 
 abbrev line_at : List NumberedStatement → ℕ → Option ℕ
 line_at ss k = option_map (λ (numbered : NumberedStatement). numbered.line) (slice_get ss k)

@@ -6,7 +6,7 @@ use Rattle.std.proofs.lemmas.Bool.{cases_eq}
 use Rattle.std.proofs.lemmas.List.{get_or-set_same, get_or-set_other, length-set, take_more}
 use Rattle.std.proofs.lemmas.Iterator.Adapters.{position_from-zero}
 use Rattle.act1_blifread.specs.Faults.{is_among}
-use Rattle.act1_blifread.specs.Steps.{ArePlaces}
+use Rattle.act1_blifread.specs.NetlistSteps.{ArePlaces}
 use Rattle.act1_blifread.proofs.NumberLists.{equal_true, equal_false}
 
 -- the first place, by recursion

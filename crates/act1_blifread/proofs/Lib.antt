@@ -11,11 +11,6 @@ pub mod CanonicalRings
 pub mod CanonicalSaid
 pub mod CanonicalStatements
 pub mod CanonicalWhole
-pub mod CanonicalWords
-pub mod ConstantTextsLines
-pub mod ConstantTextsSaid
-pub mod ConstantTextsWhole
-pub mod ConstantTexts
 pub mod ExactNetlists
 pub mod FirstLines
 pub mod FirstPlaces

@@ -14,7 +14,7 @@ use Rattle.act1_bliftext.specs.declared.statements.Statements.{Statements}
 use Rattle.act1_blifread.specs.Parts.{all_of, clock_of, data_inputs, input_names, is_clock, output_names, signals_of}
 use Rattle.act1_blifread.specs.Faults.{IsWhole}
 use Rattle.act1_blifread.specs.Netlist.{latch_of, latches_of, name_at, node_of, nodes_of, signal_at}
-use Rattle.act1_blifread.specs.Steps.{AreSignals, ArePlaces, are_within, latch_at, latches_at, node_at, nodes_at, number_at}
+use Rattle.act1_blifread.specs.NetlistSteps.{AreSignals, ArePlaces, are_within, latch_at, latches_at, node_at, nodes_at, number_at}
 use Rattle.act1_blifread.proofs.BuiltNetlists.{built_valid}
 use Rattle.act1_blifread.proofs.NodeGraphs.{all_below, below_true, names_parts}
 use Rattle.act1_blifread.proofs.NodeLevels.{built_levels}

@@ -14,7 +14,7 @@ use Rattle.act1_bliftext.specs.declared.statement.Statement.TheVariants.{Inputs,
 use Rattle.act1_order.specs.Order.{AreReads, IsFirstOnRing, LeadsTo, OnRing, Reads}
 use Rattle.act1_blifread.specs.Parts.{all_of, node_names}
 use Rattle.act1_blifread.specs.Faults.{IsFree, Passes, is_node, node_graph, node_reads}
-use Rattle.act1_blifread.specs.Steps.{are_within, ArePlaces, IsFirstLine, IsNodeLine, place_at, reads_in}
+use Rattle.act1_blifread.specs.NetlistSteps.{are_within, ArePlaces, IsFirstLine, IsNodeLine, place_at, reads_in}
 use Rattle.act1_blifread.proofs.FirstPlaces.{first_there, position_first}
 use Rattle.act1_blifread.proofs.NumberLists.{both_true}
 

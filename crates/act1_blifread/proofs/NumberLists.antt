@@ -8,7 +8,7 @@ use Rattle.std.proofs.lemmas.List.{get_or-set_same, get_or-set_other, length-set
 use Rattle.std.proofs.lemmas.List.Folds.{list_any-append}
 use Rattle.act1_base.specs.Names.{are_different_numbers}
 use Rattle.act1_blifread.specs.Faults.{is_among}
-use Rattle.act1_blifread.specs.Steps.{AreMarks}
+use Rattle.act1_blifread.specs.NetlistSteps.{AreMarks}
 
 pub both_true : (a b : Bool) → (a && b) ≡ true → (a ≡ true) × (b ≡ true)
 both_true true true e = (refl, refl)
@@ -41,22 +41,10 @@ different_more (x ∷ xs) y =
     step a b e d f g p q = rw (p, q) (cases a e d g)
       where
         cases : (a e d g : Bool) → (not (a || (e || false)) && (d && not g)) ≡ ((not a && d) && not (e || g))
-        cases true true true true = refl
-        cases true true true false = refl
-        cases true true false true = refl
-        cases true true false false = refl
-        cases true false true true = refl
-        cases true false true false = refl
-        cases true false false true = refl
-        cases true false false false = refl
-        cases false true true true = refl
-        cases false true true false = refl
-        cases false true false true = refl
-        cases false true false false = refl
-        cases false false true true = refl
-        cases false false true false = refl
-        cases false false false true = refl
-        cases false false false false = refl
+        cases true e d g = refl
+        cases false true true g = refl
+        cases false true false g = refl
+        cases false false d g = refl
 
 -- a front of numbers that differ
 pub different_front : (xs ys : List ℕ) → are_different_numbers xs ≡ false → are_different_numbers (xs ++ ys) ≡ false

@@ -12,7 +12,7 @@ use Rattle.act1_bliftext.specs.declared.statement.Statement.{Statement}
 use Rattle.act1_bliftext.specs.declared.statement.Statement.TheVariants.{Inputs, Outputs, Clock, Names, Latch}
 use Rattle.act1_blifread.specs.Parts.{all_of, clock_of, clock_names, data_inputs, given_names, input_names, is_clock, latch_names, node_names, output_names, signals_of, used_names}
 use Rattle.act1_blifread.specs.Faults.{IsFree, is_among, is_twice, is_undriven}
-use Rattle.act1_blifread.specs.Steps.{are_within, ArePlaces, is_without_place}
+use Rattle.act1_blifread.specs.NetlistSteps.{are_within, ArePlaces, is_without_place}
 use Rattle.act1_blifread.proofs.FirstPlaces.{first_among, position_first}
 use Rattle.act1_blifread.proofs.NodeGraphs.{all_below, below_true, names_parts, node_below, one_below}
 use Rattle.act1_blifread.proofs.NumberLists.{both_true, equal_true, true_equal}
@@ -261,22 +261,11 @@ signal_or_clock n ss =
     ∙ ap (λ (b : Bool). b || is_clock (clock_of ss) n) (sym (among_given n ss))
   where
     cases : (i l m c : Bool) → ((i && not c) || l || m || c) ≡ (i || l || m || c)
-    cases true true true true = refl
-    cases true true true false = refl
-    cases true true false true = refl
-    cases true true false false = refl
+    cases false l m c = refl
+    cases true l m false = refl
+    cases true true m true = refl
     cases true false true true = refl
-    cases true false true false = refl
     cases true false false true = refl
-    cases true false false false = refl
-    cases false true true true = refl
-    cases false true true false = refl
-    cases false true false true = refl
-    cases false true false false = refl
-    cases false false true true = refl
-    cases false false true false = refl
-    cases false false false true = refl
-    cases false false false false = refl
 
 -- a name has no place among the signals and isn't the clock's exactly where nothing drives it
 without_place : (count : ℕ) (ss : List NumberedStatement) (places : List (Option ℕ)) (n : ℕ) → ArePlaces count (signals_of ss) places → n < count

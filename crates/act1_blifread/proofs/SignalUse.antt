@@ -14,7 +14,7 @@ use Rattle.act1_bliftext.specs.declared.statement.Statement.TheVariants.{Inputs,
 use Rattle.act1_blifread.specs.Parts.{all_of, clock_of, given_names, is_clock, signals_of, used_names}
 use Rattle.act1_blifread.specs.Faults.{IsFree, IsWhole, is_among, is_clock_used, is_undriven, whole_kinds}
 use Rattle.act1_blifread.specs.Netlist.{signal_at}
-use Rattle.act1_blifread.specs.Steps.{are_within}
+use Rattle.act1_blifread.specs.NetlistSteps.{are_within}
 use Rattle.act1_blifread.proofs.FirstLines.{none_passes}
 use Rattle.act1_blifread.proofs.FirstPlaces.{first, first_among, first_there, position_first}
 use Rattle.act1_blifread.proofs.NodeGraphs.{get_within}

@@ -10,7 +10,7 @@ use Rattle.act1_bliftext.specs.Rules.{is_statement}
 use Rattle.act1_bliftext.specs.declared.statement.NumberedStatement.{NumberedStatement}
 use Rattle.act1_bliftext.specs.declared.statement.Statement.{Statement}
 use Rattle.act1_blifread.specs.Parts.{all_of, clock_names, clock_of}
-use Rattle.act1_blifread.specs.Steps.{are_within}
+use Rattle.act1_blifread.specs.NetlistSteps.{are_within}
 use Rattle.act1_blifread.proofs.NumberLists.{both_true}
 
 append_none : {X : Type 0} (xs : List X) → xs ++ [] ≡ xs

@@ -7,7 +7,7 @@ use Rattle.std.proofs.lemmas.Bool.Decides.{nat_tests}
 use Rattle.act1_base.specs.Names.{is_name, are_different}
 use Rattle.act1_bliftext.specs.Rules.{is_model}
 use Rattle.act1_bliftext.specs.declared.statements.Statements.{Statements}
-use Rattle.act1_blifread.specs.Steps.{are_within}
+use Rattle.act1_blifread.specs.NetlistSteps.{are_within}
 
 five : (a b c d e : Bool) → (a && b && c && d && e) ≡ true → (a ≡ true) × (b ≡ true) × (c ≡ true) × (d ≡ true) × (e ≡ true)
 five true true true true true h = (refl, refl, refl, refl, refl)

@@ -8,7 +8,7 @@ use Rattle.act1_bliftext.specs.declared.fault.BlifKind.TheVariants.{Twice}
 use Rattle.act1_bliftext.specs.declared.statement.NumberedStatement.{NumberedStatement}
 use Rattle.act1_blifread.specs.Parts.{all_of, given_names, output_names}
 use Rattle.act1_blifread.specs.Faults.{is_twice, IsFree, IsFirstAt}
-use Rattle.act1_blifread.specs.Steps.{AreMarks}
+use Rattle.act1_blifread.specs.NetlistSteps.{AreMarks}
 use Rattle.act1_blifread.proofs.StatementLists.{all_of_more}
 
 -- the line of a statement that is read at a place

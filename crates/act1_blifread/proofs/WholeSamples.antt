@@ -18,7 +18,7 @@ use Rattle.act1_blifread.specs.Faults.{HasFault, IsFirstAt, IsFree, IsWhole, Who
 use Rattle.act1_blifread.specs.Netlist.{latches_of, nodes_of, signal_at}
 use Rattle.act1_blifread.proofs.FirstLines.{clocks_line, undriven_lines, clock_used_lines, twice_is_bad, clocks_are_bad, undriven_is_bad, clock_used_is_bad, loop_is_bad, is_whole}
 use Rattle.act1_blifread.proofs.NodeGraphs.{no_loop}
-use Rattle.act1_blifread.proofs.NumberLists.{different_front}
+use Rattle.act1_blifread.proofs.CanonicalWhole.{different_first}
 
 -- names that differ in the whole differ up to each statement
 not_twice : (ss : List NumberedStatement) → is_twice ss ≡ false → IsFree ss Twice
@@ -28,21 +28,11 @@ not_twice ss whole k low has = true≢false (sym has ∙ both (fails (are_differ
     fails true e = refl
     fails false e = absurd (true≢false e)
 
-    part : (names : Statement → List ℕ) → are_different_numbers (all_of names ss) ≡ true → are_different_numbers (all_of names (take (k + 1) ss)) ≡ true
-    part names e = by (are_different_numbers (all_of names (take (k + 1) ss))) refl
-      where
-        whole_is : all_of names (take (k + 1) ss) ++ all_of names (drop (k + 1) ss) ≡ all_of names ss
-        whole_is = sym (flat_map-append (λ (n : NumberedStatement). names n.statement) (take (k + 1) ss) (drop (k + 1) ss)) ∙ ap (all_of names) (take-append-drop (k + 1) ss)
-
-        by : (b : Bool) → are_different_numbers (all_of names (take (k + 1) ss)) ≡ b → b ≡ true
-        by true f = refl
-        by false f = absurd (false≢true (sym (different_front (all_of names (take (k + 1) ss)) (all_of names (drop (k + 1) ss)) f) ∙ ap are_different_numbers whole_is ∙ e))
-
     both : (are_different_numbers (all_of given_names ss) && are_different_numbers (all_of output_names ss)) ≡ true → is_twice (take (k + 1) ss) ≡ false
     both e =
         let parts = and_parts (are_different_numbers (all_of given_names ss)) (are_different_numbers (all_of output_names ss)) e in
-        let a = part given_names parts.0 in
-        let b = part output_names parts.1 in
+        let a = different_first given_names ss (k + 1) parts.0 in
+        let b = different_first output_names ss (k + 1) parts.1 in
         ap (λ (c : Bool). not (c && are_different_numbers (all_of output_names (take (k + 1) ss)))) a ∙ ap not b
 
 abbrev pub at : ℕ → Statement → NumberedStatement

@@ -1,10 +1,6 @@
-pub mod CanonicalLaw
-pub mod ConstantLaw
-pub mod Constants
-pub mod Exact
-pub mod ExactTexts
 pub mod Faults
+pub mod Laws
 pub mod Netlist
+pub mod NetlistSteps
 pub mod Parts
-pub mod Steps
 pub mod Text

@@ -2,7 +2,7 @@ ghost use Rattle.std.specs.Prelude.{◌≡◌, slice_get};
 ghost use Rattle.std.specs.List.{list_any};
 ghost use Rattle.act1_blifread.specs.Parts.{clock_names, clock_of, is_clock};
 ghost use Rattle.act1_blifread.specs.Faults.{is_second_clock, is_clock_used};
-ghost use Rattle.act1_blifread.specs.Steps.{first_line};
+ghost use Rattle.act1_blifread.specs.NetlistSteps.{first_line};
 
 use act1_bliftext::{NumberedStatement, Statement};
 

@@ -3,7 +3,7 @@ ghost use Rattle.std.specs.List.{filter_map};
 ghost use Rattle.std.specs.Option.{option_to_list};
 ghost use Rattle.act1_blifread.specs.Parts.{all_of, node_names};
 ghost use Rattle.act1_blifread.specs.Faults.{is_node, node_graph};
-ghost use Rattle.act1_blifread.specs.Steps.{are_within, place_at, reads_in, IsFirstLine, IsNodeLine};
+ghost use Rattle.act1_blifread.specs.NetlistSteps.{are_within, place_at, reads_in, IsFirstLine, IsNodeLine};
 
 use crate::places::{place_at, places_of};
 use crate::signals::add_nodes;

@@ -2,24 +2,18 @@
 //! fault.
 #![tactic(auto)]
 
-mod canonical_law;
 mod clocks;
-mod constant_law;
-mod exact;
 mod graph;
+mod laws;
 mod marks;
 mod netlist;
 mod places;
 mod signals;
-#[cfg(test)]
-mod tests;
 mod text;
 mod twice;
 mod whole;
 
 pub use act1_bliftext::{BlifFault, BlifKind};
-pub use canonical_law::canonical_text_is_read_back;
-pub use constant_law::constant_texts_are_blif;
-pub use exact::{blif_texts_are_exact, netlists_are_exact};
+pub use laws::{blif_texts_are_exact, canonical_text_is_read_back, netlists_are_exact};
 pub use text::read_blif;
 pub use whole::netlist_of;

@@ -1,7 +1,7 @@
 ghost use Rattle.std.specs.Prelude.{◌≡◌, ℕ, List, ◌++◌, not, false, length, IsTrue};
 ghost use Rattle.act1_base.specs.Names.{are_different_numbers};
 ghost use Rattle.act1_bliftext.specs.Rules.{are_below};
-ghost use Rattle.act1_blifread.specs.Steps.{AreMarks};
+ghost use Rattle.act1_blifread.specs.NetlistSteps.{AreMarks};
 
 // Marks names one after the other, up to one that is marked already; whether there is one.
 pub fn is_marked_again(marks: &mut Vec<bool>, names: &[u16]) -> bool

@@ -4,7 +4,7 @@ ghost use Rattle.act1_bliftext.specs.Rules.{are_below, is_statement};
 ghost use Rattle.act1_blifread.specs.Parts.{all_of, output_names};
 ghost use Rattle.act1_blifread.specs.Faults.{IsWhole};
 ghost use Rattle.act1_blifread.specs.Netlist.{IsNetlistOf, name_at};
-ghost use Rattle.act1_blifread.specs.Steps.{are_within, AreSignals, latch_at, latches_at, node_at, nodes_at, number_at};
+ghost use Rattle.act1_blifread.specs.NetlistSteps.{are_within, AreSignals, latch_at, latches_at, node_at, nodes_at, number_at};
 
 use crate::places::place_at;
 use crate::signals::{Signals, data_inputs};

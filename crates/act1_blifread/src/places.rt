@@ -1,6 +1,6 @@
 ghost use Rattle.std.specs.Prelude.{◌≡◌, ◌<◌, ◌≤◌, Some, length, IsTrue, IfOk, slice_set, unwrap_or};
 ghost use Rattle.act1_bliftext.specs.Rules.{are_below};
-ghost use Rattle.act1_blifread.specs.Steps.{ArePlaces, place_at};
+ghost use Rattle.act1_blifread.specs.NetlistSteps.{ArePlaces, place_at};
 
 use act1_base::Memory;
 use std::alloc::Global;

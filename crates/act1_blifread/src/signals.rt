@@ -1,7 +1,7 @@
 ghost use Rattle.std.specs.Prelude.{◌≡◌, ◌++◌, ◌||◌, not, filter, is_some, OnOk, IfOk};
 ghost use Rattle.std.specs.List.{list_any};
 ghost use Rattle.act1_blifread.specs.Parts.{all_of, data_inputs, input_names, is_clock, latch_names, node_names, signals_of, clock_of, used_names};
-ghost use Rattle.act1_blifread.specs.Steps.{first_line, is_without_place, place_at};
+ghost use Rattle.act1_blifread.specs.NetlistSteps.{first_line, is_without_place, place_at};
 
 use crate::clocks::is_clock;
 use crate::places::place_at;

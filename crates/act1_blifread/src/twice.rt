@@ -2,7 +2,7 @@ ghost use Rattle.std.specs.Prelude.{◌≡◌, ◌++◌, ℕ, List, length, IsTr
 ghost use Rattle.act1_base.specs.Names.{are_different_numbers};
 ghost use Rattle.act1_bliftext.specs.Rules.{is_statement};
 ghost use Rattle.act1_blifread.specs.Parts.{given_names, output_names};
-ghost use Rattle.act1_blifread.specs.Steps.{are_within, AreMarks, IsFirstLine};
+ghost use Rattle.act1_blifread.specs.NetlistSteps.{are_within, AreMarks, IsFirstLine};
 
 use crate::marks::is_marked_again;
 use act1_base::Memory;

@@ -2,7 +2,7 @@ ghost use Rattle.std.specs.Prelude.{◌≡◌, length, OnOk, IfOk, IfErr};
 ghost use Rattle.act1_blifread.specs.Parts.{clock_of, signals_of};
 ghost use Rattle.act1_blifread.specs.Faults.{IsFree, IsWhole, WholeBad};
 ghost use Rattle.act1_blifread.specs.Netlist.{Answers, IsNetlistOf};
-ghost use Rattle.act1_blifread.specs.Steps.{ArePlaces, AreSignals, Refuses, StopsAt};
+ghost use Rattle.act1_blifread.specs.NetlistSteps.{ArePlaces, AreSignals, Refuses, StopsAt};
 
 use crate::clocks::{clock_of, clock_used_line, second_clock_line};
 use crate::graph::loop_line;

@@ -5,8 +5,8 @@ use Rattle.act1_bliftext.specs.Lines.{Line}
 use Rattle.act1_bliftext.specs.Forms.{form_of, names_in, names_by}
 use Rattle.act1_bliftext.specs.Tables.{with_names, AreNumbersOf}
 use Rattle.act1_bliftext.specs.Faults.{head_above, rows_above, names_above, has_end, is_row_form}
-use Rattle.act1_bliftext.specs.Statements.{Block, Says, AreSaid, block_of, blocks_above, earlier_blocks, is_said, form_in, numbers_in, SaysRest, marks_in}
-use Rattle.act1_bliftext.specs.Reading.{Stands, OpenSays, Closes, IsNames, AddsSaid, StartIs, IsOpened, is_names_form, takes_rows}
+use Rattle.act1_bliftext.specs.Statements.{Block, Says, AreSaid, block_of, block_with, blocks_above, earlier_blocks, is_said, form_in, numbers_in, SaysRest, marks_in}
+use Rattle.act1_bliftext.specs.ReadingSteps.{Stands, OpenSays, Closes, IsNames, AddsSaid, StartIs, IsOpened, is_names_form, takes_rows}
 use Rattle.act1_bliftext.specs.declared.form.Form.{Form}
 use Rattle.act1_bliftext.specs.declared.form.Form.TheVariants as form
 use Rattle.act1_bliftext.specs.declared.open_names.OpenNames.{OpenNames}
@@ -47,10 +47,6 @@ head_next above line f is free = ap (λ (b : Bool). if b then head_above above e
 
 pub rows_next : (above : List Line) (line : Line) (f : Form) → form_of line.first ≡ f → is_row_form f ≡ false → rows_above (line ∷ above) ≡ []
 rows_next above line f is free = ap (λ (b : Bool). if b then rows_above above ++ line ∷ [] else []) (ap is_row_form is ∙ free)
-
--- a line with its rows as a block
-abbrev pub block_with : Line → List Line → Block
-block_with head rows = record { head = head; rows = rows }
 
 pub blocks_next : (above : List Line) (line : Line) (f : Form) → form_of line.first ≡ f → is_row_form f ≡ false
     → blocks_above (line ∷ above) ≡ blocks_above above ++ (if is_said f then block_with line [] ∷ [] else [])

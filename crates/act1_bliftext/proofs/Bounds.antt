@@ -7,7 +7,7 @@ use Rattle.std.proofs.lemmas.List.{length-take}
 use Rattle.std.proofs.lemmas.List.Sums.{sum_by-append, sum_by-cons}
 use Rattle.act1_base.specs.Lines.{lines_of, in_front}
 use Rattle.act1_bliftext.specs.Lines.{is_blank, has_byte, words_of, without_comment, before_backslash}
-use Rattle.act1_bliftext.specs.Places.{bytes_of, kept_bytes}
+use Rattle.act1_bliftext.specs.PlaceSteps.{bytes_of, kept_bytes}
 use Rattle.act1_bliftext.specs.declared.place.Place.{Place}
 use Rattle.act1_bliftext.specs.declared.fault.BlifFault.{BlifFault}
 

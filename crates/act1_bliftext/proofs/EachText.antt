@@ -2,11 +2,11 @@
 use Rattle.std.proofs.Common.{ℕ, ◌≡◌, ◌+◌, ◌<◌, ◌≤◌, ◌^◌, ◌⊎◌, inl, inr, List, [], ◌∷◌, ◌++◌, length, reverse, Option, Some, None, refl, sym, ap, subst, ◌∙◌, arith}
 use Rattle.std.proofs.lemmas.List.Sums.{sum_by-cons}
 use Rattle.act1_base.specs.Lines.{lines_of}
-use Rattle.act1_bliftext.specs.Lines.{Line, text_lines, line_of, words_of, without_comment, before_backslash}
+use Rattle.act1_bliftext.specs.Lines.{Line, text_lines, line_of, words_of, without_comment, before_backslash, over}
 use Rattle.act1_bliftext.specs.Faults.{first_fault, names_above, LineBad}
 use Rattle.act1_bliftext.specs.Statements.{Say, StatementsOf, model_of}
-use Rattle.act1_bliftext.specs.Places.{over, Faultless, ahead, joined_words}
-use Rattle.act1_bliftext.specs.Exact.{OneOfTwo}
+use Rattle.act1_bliftext.specs.PlaceSteps.{Faultless, ahead, joined_words}
+use Rattle.act1_bliftext.specs.Laws.{OneOfTwo}
 use Rattle.act1_bliftext.specs.declared.fault.BlifFault.{BlifFault}
 use Rattle.act1_bliftext.specs.declared.statements.Statements.{Statements}
 use Rattle.act1_bliftext.proofs.Bounds.{bytes_in, weight, add_weight, lines_weight, more_bytes, code_fits, front_fits}

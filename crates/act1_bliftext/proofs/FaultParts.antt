@@ -6,7 +6,7 @@ use Rattle.act1_bliftext.specs.Lines.{Line}
 use Rattle.act1_bliftext.specs.Forms.{form_of, latch_start, is_other_latch}
 use Rattle.act1_bliftext.specs.Rows.{is_mixed, row_value}
 use Rattle.act1_bliftext.specs.Faults.{has_fault, line_kinds, fault_of, is_byte_fault, head_above, rows_above, names_above, has_end, is_later, fits_under}
-use Rattle.act1_bliftext.specs.Reading.{own_fault, place_fault, IsNoRow}
+use Rattle.act1_bliftext.specs.ReadingSteps.{own_fault, place_fault, IsNoRow}
 use Rattle.act1_bliftext.specs.declared.form.Form.{Form}
 use Rattle.act1_bliftext.specs.declared.form.Form.TheVariants as form
 use Rattle.act1_bliftext.specs.declared.fault.BlifKind.{BlifKind}

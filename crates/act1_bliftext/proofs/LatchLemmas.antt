@@ -1,8 +1,8 @@
 -- The words of a latch.
 use Rattle.std.proofs.Common.{ℕ, ◌≡◌, ◌≤◌, true, ◌||◌, nat_lt, List, [], ◌∷◌, length, refl, arith}
 use Rattle.std.proofs.lemmas.Bool.Decides.{nat_tests}
-use Rattle.act1_bliftext.specs.Latches.{latch_fault}
-use Rattle.act1_bliftext.specs.Reading.{own_fault}
+use Rattle.act1_bliftext.specs.LatchSteps.{latch_fault}
+use Rattle.act1_bliftext.specs.ReadingSteps.{own_fault}
 use Rattle.act1_bliftext.specs.declared.form.Form.TheVariants as form
 
 long : (n : ℕ) → 6 ≤ n → (nat_lt n 2 || nat_lt 5 n) ≡ true

@@ -4,10 +4,12 @@ pub mod Bounds
 pub mod EachText
 pub mod FaultParts
 pub mod LatchLemmas
+pub mod LineAdds
 pub mod LineNames
 pub mod Numbering
 pub mod OneReadings
 pub mod PlaceLemmas
+pub mod PlainTexts
 pub mod Samples
 pub mod SomeReading
 pub mod TakesForm
@@ -16,3 +18,4 @@ pub mod Valid
 pub mod WholeLines
 pub mod WordLists
 pub mod WordTurns
+pub mod WrittenLines

@@ -11,8 +11,8 @@ use Rattle.act1_bliftext.specs.Lines.{Line}
 use Rattle.act1_bliftext.specs.Forms.{form_of, names_by, control_names, latch_control, latch_names}
 use Rattle.act1_bliftext.specs.Tables.{with_name, with_names}
 use Rattle.act1_bliftext.specs.Faults.{is_fine_word, is_bad_word, is_byte_fault, is_long, are_past_limit, is_limit_fault, is_after_fault, fault_of, names_above, is_later, has_end}
-use Rattle.act1_bliftext.specs.Reading.{IsNoRow, own_fault, place_fault}
-use Rattle.act1_bliftext.specs.Places.{Faultless}
+use Rattle.act1_bliftext.specs.ReadingSteps.{IsNoRow, own_fault, place_fault}
+use Rattle.act1_bliftext.specs.PlaceSteps.{Faultless}
 use Rattle.act1_bliftext.specs.declared.form.Form.{Form}
 use Rattle.act1_bliftext.specs.declared.form.Form.TheVariants as form
 use Rattle.act1_bliftext.specs.declared.fault.BlifKind.{BlifKind}

@@ -12,7 +12,7 @@ use Rattle.std.proofs.lemmas.Slice.Eq.{bytes_eq-Decides}
 use Rattle.act1_base.specs.declared.texts.Stop.{Stop}
 use Rattle.act1_base.specs.declared.texts.Stop.TheVariants.{Fault, Memory}
 use Rattle.act1_bliftext.specs.Faults.{is_long}
-use Rattle.act1_bliftext.specs.Numbering.{Numbers, NumbersAll, AddsNames}
+use Rattle.act1_bliftext.specs.NumberingSteps.{Numbers, NumbersAll, AddsNames}
 use Rattle.act1_bliftext.proofs.WordLists.{texts, next_text, more_texts, no_text, all_texts}
 use Rattle.act1_bliftext.specs.Tables.{with_name, with_names, AreNumbersOf}
 use Rattle.act1_bliftext.specs.declared.fault.BlifKind.{BlifKind}

@@ -18,8 +18,8 @@ use Rattle.act1_bliftext.specs.Tables.{AreNumbersOf}
 use Rattle.act1_bliftext.specs.Faults.{names_above}
 use Rattle.act1_bliftext.specs.Rules.{are_statements}
 use Rattle.act1_bliftext.specs.Statements.{Block, Says, SaysRest, AreSaid, blocks_above, form_in, numbers_in, control_number, marks_in}
-use Rattle.act1_bliftext.specs.Places.{Faultless}
-use Rattle.act1_bliftext.specs.Exact.{NeverBoth, OneReading, OneFault}
+use Rattle.act1_bliftext.specs.PlaceSteps.{Faultless}
+use Rattle.act1_bliftext.specs.Laws.{NeverBoth, OneReading, OneFault}
 use Rattle.act1_bliftext.specs.declared.statement.NumberedStatement.{NumberedStatement}
 use Rattle.act1_bliftext.specs.declared.statement.Statement.{Statement}
 use Rattle.act1_bliftext.specs.declared.statement.Statement.TheVariants as said

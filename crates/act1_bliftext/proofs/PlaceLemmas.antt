@@ -6,12 +6,12 @@ use Rattle.std.proofs.lemmas.List.{append-nil}
 use Rattle.std.proofs.lemmas.List.Elements.{filter-append}
 use Rattle.std.proofs.lemmas.List.Splits.{length-slice_split}
 use Rattle.act1_base.specs.Lines.{lines_of}
-use Rattle.act1_bliftext.specs.Lines.{Line, Joined, line_of, text_lines, is_blank, has_byte, words_of, without_comment, before_backslash, joined_from, joined_before, onto_next}
+use Rattle.act1_bliftext.specs.Lines.{Line, Joined, line_of, text_lines, is_blank, has_byte, words_of, without_comment, before_backslash, joined_from, joined_before, onto_next, over}
 use Rattle.act1_bliftext.specs.Faults.{first_fault}
-use Rattle.act1_bliftext.specs.Reading.{IsRead}
+use Rattle.act1_bliftext.specs.ReadingSteps.{IsRead}
 use Rattle.act1_bliftext.specs.Statements.{Say, StatementsOf}
 use Rattle.act1_bliftext.specs.declared.statements.Statements.{Statements}
-use Rattle.act1_bliftext.specs.Places.{over, IsFault, TakesLines, IsPlace, IsEnd, AllGives, IsWhole, ahead, joined_words, bytes_of}
+use Rattle.act1_bliftext.specs.PlaceSteps.{IsFault, TakesLines, IsBefore, IsPlace, IsEnd, AllGives, IsWhole, ahead, joined_words, bytes_of}
 use Rattle.act1_bliftext.specs.declared.fault.BlifFault.{BlifFault}
 use Rattle.act1_bliftext.specs.declared.place.Place.{Place}
 use Rattle.act1_bliftext.specs.declared.reading.Reading.{Reading}
@@ -77,19 +77,23 @@ ahead_is (raw ∷ raws) number first words =
 pub ahead_all : (bytes : List ℕ) → ahead (lines_of bytes) 1 1 [] ≡ text_lines bytes
 ahead_all bytes = ahead_is (lines_of bytes) 1 1 [] ∙ pended_own 1 (lines_of bytes)
 
+-- the same lines are still to come for the same reading
+moved : (all some others : List Line) (old new : Reading) → others ≡ some → new ≡ old → IsBefore all some old → IsBefore all others new
+moved all some others old new is reading h = record {
+  above = h.above;
+  read = subst (λ (r : Reading). IsRead h.above r) (sym reading) h.read;
+  faultless = h.faultless;
+  faults = ap (first_fault h.above) is ∙ h.faults;
+  lines = ap (λ (ls : List Line). over ls h.above) is ∙ h.lines;
+}
+
 -- the line is joined to the next
 pub goes_on : (all : List Line) (raw : List ℕ) (raws : List (List ℕ)) (old new : Place) (front : List ℕ) → before_backslash (without_comment raw) ≡ Some front → new.reading ≡ old.reading → new.first ≡ old.first → new.number ≡ old.number + 1
     → bytes_of new.words.items ≡ bytes_of old.words.items ++ words_of front → IsPlace all (raw ∷ raws) old → IsPlace all raws new
 goes_on all raw raws old new front joins reading first number words h =
     let is : ahead raws new.number new.first (bytes_of new.words.items) ≡ ahead (raw ∷ raws) old.number old.first (bytes_of old.words.items) =
     rw (number, first, words) (sym (ap (λ (o : Option (List ℕ)). joined_words o old.first (old.number + 1) (bytes_of old.words.items) (words_of (without_comment raw)) (ahead raws (old.number + 1))) joins)) in
-    record {
-      above = h.above;
-      read = subst (λ (r : Reading). IsRead h.above r) (sym reading) h.read;
-      faultless = h.faultless;
-      faults = ap (first_fault h.above) is ∙ h.faults;
-      lines = ap (λ (ls : List Line). over ls h.above) is ∙ h.lines;
-    }
+    moved all _ _ old.reading new.reading is reading h
 
 -- the joined line ends
 pub comes_to_end : (all : List Line) (raw : List ℕ) (raws : List (List ℕ)) (old new : Place) → before_backslash (without_comment raw) ≡ None → new.reading ≡ old.reading → new.first ≡ old.first → new.number ≡ old.number + 1
@@ -97,13 +101,7 @@ pub comes_to_end : (all : List Line) (raw : List ℕ) (raws : List (List ℕ)) (
 comes_to_end all raw raws old new ends reading first number words h =
     let is : line_of new.first (bytes_of new.words.items) ++ ahead raws new.number new.number [] ≡ ahead (raw ∷ raws) old.number old.first (bytes_of old.words.items) =
     rw (number, first, words) (sym (ap (λ (o : Option (List ℕ)). joined_words o old.first (old.number + 1) (bytes_of old.words.items) (words_of (without_comment raw)) (ahead raws (old.number + 1))) ends)) in
-    record {
-      above = h.above;
-      read = subst (λ (r : Reading). IsRead h.above r) (sym reading) h.read;
-      faultless = h.faultless;
-      faults = ap (first_fault h.above) is ∙ h.faults;
-      lines = ap (λ (ls : List Line). over ls h.above) is ∙ h.lines;
-    }
+    moved all _ _ old.reading new.reading is reading h
 
 -- behind the joined line
 pub behind_line : (all : List Line) (raws : List (List ℕ)) (old new : Place) (reading : Reading) (words : List (Bor (List ℕ))) → words ≡ old.words.items → (h : IsEnd all raws old) → TakesLines h.above (line_of old.first (bytes_of words)) (Ok reading)

@@ -18,10 +18,10 @@ use Rattle.act1_bliftext.specs.Forms.{form_of, names_by, names_in, latch_names, 
 use Rattle.act1_bliftext.specs.Rows.{is_row_of, mark_of, marks_by, row_marks, is_mark, is_value}
 use Rattle.act1_bliftext.specs.Tables.{with_name, with_names, AreNumbersOf}
 use Rattle.act1_bliftext.specs.Faults.{is_row_form, names_above, fault_of, head_above, fits_under, has_end, are_past_limit}
-use Rattle.act1_bliftext.specs.Latches.{latch_fault}
+use Rattle.act1_bliftext.specs.LatchSteps.{latch_fault}
 use Rattle.act1_bliftext.specs.Statements.{AreSaid, blocks_above, earlier_blocks, control_number, is_said}
-use Rattle.act1_bliftext.specs.Reading.{Stands, Closes, IsOpen, HasRow, AddsSaid, SaysLine, Opened, IsNoRow, mark_count, open_marks, own_fault, value_after, is_names_form}
-use Rattle.act1_bliftext.specs.Places.{Faultless}
+use Rattle.act1_bliftext.specs.ReadingSteps.{Stands, Closes, IsOpen, HasRow, AddsSaid, SaysLine, Opened, IsNoRow, mark_count, open_marks, own_fault, value_after, is_names_form}
+use Rattle.act1_bliftext.specs.PlaceSteps.{Faultless}
 use Rattle.act1_bliftext.specs.declared.fault.BlifKind.{BlifKind}
 use Rattle.act1_bliftext.specs.declared.fault.BlifKind.TheVariants as kind
 use Rattle.act1_bliftext.specs.declared.form.Form.{Form}

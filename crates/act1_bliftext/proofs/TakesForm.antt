@@ -8,7 +8,7 @@ use Rattle.act1_bliftext.specs.Forms.{form_of, names_by}
 use Rattle.act1_bliftext.specs.Tables.{with_names}
 use Rattle.act1_bliftext.specs.Faults.{names_above, has_end, is_later, is_byte_fault, is_after_fault, is_end_form}
 use Rattle.act1_bliftext.specs.Statements.{AreSaid, blocks_above, model_of, model_by}
-use Rattle.act1_bliftext.specs.Reading.{IsRead, IsClosed, IsNoRow, FormGives, Adds, IsOpened, TakesLine, Stands, own_fault, place_fault, rest_fault, model_after, open_marks, mark_count}
+use Rattle.act1_bliftext.specs.ReadingSteps.{IsRead, IsClosed, IsNoRow, FormGives, Adds, IsOpened, TakesLine, Stands, own_fault, place_fault, rest_fault, model_after, open_marks, mark_count}
 use Rattle.act1_bliftext.specs.declared.form.Form.{Form}
 use Rattle.act1_bliftext.specs.declared.form.Form.TheVariants as form
 use Rattle.act1_bliftext.specs.declared.fault.BlifKind.{BlifKind}
@@ -67,15 +67,15 @@ model_next (n ∷ above) line f old is h m = later_model f line.rest old (has_en
 -- what becomes of the statements
 stands_form : (above : List Line) (line : Line) (f : Form) (closed new : Reading) → form_of line.first ≡ f → IsNoRow f → is_after_fault f (is_later above) (has_end above) ≡ false
     → new.names ≡ names_above (line ∷ above) → AreSaid (names_above above) (blocks_above above) closed.statements → Adds f line.number line.rest closed new
-    → Stands (line ∷ above) (names_above (line ∷ above)) new.statements new.«open»
-stands_form above line form.Model closed new is h after known said added = stands_quiet above line form.Model closed.statements new.statements new.«open» is refl refl refl said added.0 added.1
-stands_form above line form.Inputs closed new is h after known said added = stands_said above line form.Inputs closed.statements new.statements new.«open» new.names is refl refl refl known said added.0 added.1
-stands_form above line form.Outputs closed new is h after known said added = stands_said above line form.Outputs closed.statements new.statements new.«open» new.names is refl refl refl known said added.0 added.1
-stands_form above line form.Clock closed new is h after known said added = stands_said above line form.Clock closed.statements new.statements new.«open» new.names is refl refl refl known said added.0 added.1
-stands_form above line form.Names closed new is h after known said added = stands_names above line closed.statements new.statements new.«open» new.names is after known said added.0 added.1
-stands_form above line form.Latch closed new is h after known said added = stands_said above line form.Latch closed.statements new.statements new.«open» new.names is refl refl refl known said added.0 added.1
-stands_form above line form.End closed new is h after known said added = stands_quiet above line form.End closed.statements new.statements new.«open» is refl refl refl said added.0 added.1
-stands_form above line form.Unknown closed new is h after known said added = stands_quiet above line form.Unknown closed.statements new.statements new.«open» is refl refl refl said added.0 added.1
+    → Stands (line ∷ above) (names_above (line ∷ above)) new.statements new.open_names
+stands_form above line form.Model closed new is h after known said added = stands_quiet above line form.Model closed.statements new.statements new.open_names is refl refl refl said added.0 added.1
+stands_form above line form.Inputs closed new is h after known said added = stands_said above line form.Inputs closed.statements new.statements new.open_names new.names is refl refl refl known said added.0 added.1
+stands_form above line form.Outputs closed new is h after known said added = stands_said above line form.Outputs closed.statements new.statements new.open_names new.names is refl refl refl known said added.0 added.1
+stands_form above line form.Clock closed new is h after known said added = stands_said above line form.Clock closed.statements new.statements new.open_names new.names is refl refl refl known said added.0 added.1
+stands_form above line form.Names closed new is h after known said added = stands_names above line closed.statements new.statements new.open_names new.names is after known said added.0 added.1
+stands_form above line form.Latch closed new is h after known said added = stands_said above line form.Latch closed.statements new.statements new.open_names new.names is refl refl refl known said added.0 added.1
+stands_form above line form.End closed new is h after known said added = stands_quiet above line form.End closed.statements new.statements new.open_names is refl refl refl said added.0 added.1
+stands_form above line form.Unknown closed new is h after known said added = stands_quiet above line form.Unknown closed.statements new.statements new.open_names is refl refl refl said added.0 added.1
 stands_form above line form.Row closed new is h after known said added = elim h [ ]
 
 -- the reading after the line is that of the lines with it
@@ -86,7 +86,7 @@ takes_form above line f old closed (Ok new) r c is h byte gives =
     let after = not_after above line f faultless in
     let known : new.names ≡ names_above (line ∷ above) = gives.1.names ∙ ap (λ (ns : List (List ℕ)). with_names ns (names_by f line.rest)) (c.names ∙ r.names)
     ∙ ap (λ (g : Form). with_names (names_above above) (names_by g line.rest)) (sym is) in
-    let said = closes_said above (names_above above) old.statements closed.statements old.«open» r.said c.said in (
+    let said = closes_said above (names_above above) old.statements closed.statements old.open_names r.said c.said in (
       of_no_row above line f is h byte ∙ faultless,
       record {
         model = gives.1.model ∙ model_next above line f closed.model is after (c.model ∙ r.model);
@@ -107,19 +107,19 @@ opened_marks : (names : List (List ℕ)) (number : ℕ) (rest : List (List ℕ))
 opened_marks names number rest None n h = elim h [ ]
 opened_marks names number rest (Some o) n h = let none : mark_count o.rows ≡ 0 = ap mark_count h.rows in omega arith
 
-form_marks : (f : Form) (number : ℕ) (rest : List (List ℕ)) (closed new : Reading) (n : ℕ) → IsNoRow f → Adds f number rest closed new → open_marks new.«open» ≤ n
-form_marks form.Model number rest closed new n h a = none_open new.«open» n a.1
-form_marks form.Inputs number rest closed new n h a = none_open new.«open» n a.1
-form_marks form.Outputs number rest closed new n h a = none_open new.«open» n a.1
-form_marks form.Clock number rest closed new n h a = none_open new.«open» n a.1
-form_marks form.Names number rest closed new n h a = opened_marks new.names number rest new.«open» n a.1
-form_marks form.Latch number rest closed new n h a = none_open new.«open» n a.1
-form_marks form.End number rest closed new n h a = none_open new.«open» n a.1
-form_marks form.Unknown number rest closed new n h a = none_open new.«open» n a.1
+form_marks : (f : Form) (number : ℕ) (rest : List (List ℕ)) (closed new : Reading) (n : ℕ) → IsNoRow f → Adds f number rest closed new → open_marks new.open_names ≤ n
+form_marks form.Model number rest closed new n h a = none_open new.open_names n a.1
+form_marks form.Inputs number rest closed new n h a = none_open new.open_names n a.1
+form_marks form.Outputs number rest closed new n h a = none_open new.open_names n a.1
+form_marks form.Clock number rest closed new n h a = none_open new.open_names n a.1
+form_marks form.Names number rest closed new n h a = opened_marks new.names number rest new.open_names n a.1
+form_marks form.Latch number rest closed new n h a = none_open new.open_names n a.1
+form_marks form.End number rest closed new n h a = none_open new.open_names n a.1
+form_marks form.Unknown number rest closed new n h a = none_open new.open_names n a.1
 form_marks form.Row number rest closed new n h a = elim h [ ]
 
 -- no mark is left open
-pub gives_marks : (f : Form) (number : ℕ) (rest : List (List ℕ)) (closed : Reading) (result : Result Reading (Stop BlifKind)) (n : ℕ) → IsNoRow f → FormGives f number rest closed result → IfOk result (λ r. open_marks r.«open» ≤ n)
+pub gives_marks : (f : Form) (number : ℕ) (rest : List (List ℕ)) (closed : Reading) (result : Result Reading (Stop BlifKind)) (n : ℕ) → IsNoRow f → FormGives f number rest closed result → IfOk result (λ r. open_marks r.open_names ≤ n)
 gives_marks f number rest closed (Ok new) n h gives = form_marks f number rest closed new n h gives.1.said
 gives_marks f number rest closed (Err stop) n h gives = tt
 

@@ -12,7 +12,7 @@ use Rattle.act1_bliftext.specs.Rows.{is_row_of, is_one, value_by, marks_by, mark
 use Rattle.act1_bliftext.specs.Tables.{with_names, AreNumbersOf}
 use Rattle.act1_bliftext.specs.Faults.{names_above, has_end, is_byte_fault, is_end_form, is_row_form, fault_of, fits_under, fits_form, head_above, rows_above}
 use Rattle.act1_bliftext.specs.Statements.{AreSaid, earlier_blocks, model_of, marks_in}
-use Rattle.act1_bliftext.specs.Reading.{IsRead, TakesLine, Stands, IsOpen, OpenSays, RowAdded, RowGives, HasRow, UnderGives, mixes, value_after, takes_rows, is_names_form, open_marks}
+use Rattle.act1_bliftext.specs.ReadingSteps.{IsRead, TakesLine, Stands, IsOpen, OpenSays, RowAdded, RowGives, HasRow, UnderGives, mixes, value_after, takes_rows, is_names_form, open_marks}
 use Rattle.act1_bliftext.specs.declared.form.Form.{Form}
 use Rattle.act1_bliftext.specs.declared.form.Form.TheVariants as form
 use Rattle.act1_bliftext.specs.declared.fault.BlifKind.{BlifKind}
@@ -175,14 +175,14 @@ module _ (above : List Line) (line : Line) (old : Reading) (is : form_of line.fi
 
 -- the reading after a row is that of the lines with it
 pub takes_row : (above : List Line) (line : Line) (old : Reading) (result : Result Reading (Stop BlifKind)) → IsRead above old → form_of line.first ≡ form.Row → is_byte_fault line.first line.rest ≡ false
-    → UnderGives old.«open» line.first line.rest old result → TakesLine above line result
-takes_row above line old result r is byte gives = row_taken above line old is byte r old.«open» result r.said gives
+    → UnderGives old.open_names line.first line.rest old result → TakesLine above line result
+takes_row above line old result r is byte gives = row_taken above line old is byte r old.open_names result r.said gives
 
 marks_fit : (first : List ℕ) (rest : List (List ℕ)) → length (map mark_of (marks_by first rest)) ≤ length first
 marks_fit first [] = omega arith
 marks_fit first (value ∷ rest) = omega (arith, length-map first mark_of)
 
-under_marks : (p : Option OpenNames) (first : List ℕ) (rest : List (List ℕ)) (old : Reading) (result : Result Reading (Stop BlifKind)) → UnderGives p first rest old result → IfOk result (λ r. open_marks r.«open» ≤ open_marks p + length first)
+under_marks : (p : Option OpenNames) (first : List ℕ) (rest : List (List ℕ)) (old : Reading) (result : Result Reading (Stop BlifKind)) → UnderGives p first rest old result → IfOk result (λ r. open_marks r.open_names ≤ open_marks p + length first)
 under_marks None first rest old (Ok new) h = cc
 under_marks None first rest old (Err stop) h = tt
 under_marks (Some n) first rest old (Ok new) h =
@@ -193,11 +193,11 @@ under_marks (Some n) first rest old (Ok new) h =
 under_marks (Some n) first rest old (Err stop) h = tt
 
 -- a row adds no more marks than it has bytes
-pub row_marks_fit : (first : List ℕ) (rest : List (List ℕ)) (old : Reading) (result : Result Reading (Stop BlifKind)) → UnderGives old.«open» first rest old result → IfOk result (λ r. open_marks r.«open» ≤ open_marks old.«open» + length first)
-row_marks_fit first rest old result h = under_marks old.«open» first rest old result h
+pub row_marks_fit : (first : List ℕ) (rest : List (List ℕ)) (old : Reading) (result : Result Reading (Stop BlifKind)) → UnderGives old.open_names first rest old result → IfOk result (λ r. open_marks r.open_names ≤ open_marks old.open_names + length first)
+row_marks_fit first rest old result h = under_marks old.open_names first rest old result h
 
 -- what a row gives under an open `.names`
-pub under_open : (p : Option OpenNames) (n now : OpenNames) (first : List ℕ) (rest : List (List ℕ)) (old new : Reading) → p ≡ Some n → new.«open» ≡ Some now → RowGives n first rest (Ok now)
+pub under_open : (p : Option OpenNames) (n now : OpenNames) (first : List ℕ) (rest : List (List ℕ)) (old new : Reading) → p ≡ Some n → new.open_names ≡ Some now → RowGives n first rest (Ok now)
     → new.model ≡ old.model → new.names ≡ old.names → new.statements ≡ old.statements → new.is_later ≡ true → new.has_ended ≡ old.has_ended → UnderGives p first rest old (Ok new)
 under_open p n now first rest old new is is_open row model names statements later ended =
     subst (λ (q : Option OpenNames). UnderGives q first rest old (Ok new)) (sym is)

@@ -13,8 +13,8 @@ use Rattle.act1_bliftext.specs.Tables.{AreNumbersOf}
 use Rattle.act1_bliftext.specs.Faults.{is_bad_word, is_long, fault_of, names_above}
 use Rattle.act1_bliftext.specs.Rules.{are_below, is_control, is_statement, is_model, are_statements}
 use Rattle.act1_bliftext.specs.Statements.{Block, Say, SaysRest, AreSaid, blocks_above, model_of, model_by, numbers_in, control_number}
-use Rattle.act1_bliftext.specs.Reading.{IsRead, IsClosed}
-use Rattle.act1_bliftext.specs.Places.{Faultless}
+use Rattle.act1_bliftext.specs.ReadingSteps.{IsRead, IsClosed}
+use Rattle.act1_bliftext.specs.PlaceSteps.{Faultless}
 use Rattle.act1_bliftext.specs.declared.form.Form.{Form}
 use Rattle.act1_bliftext.specs.declared.form.Form.TheVariants as form
 use Rattle.act1_bliftext.specs.declared.reading.Reading.{Reading}
@@ -132,5 +132,5 @@ pub closed_says : (above : List Line) (old closed : Reading) (names : List (List
 closed_says above old closed names statements r c known same = record {
   model = c.model ∙ r.model;
   names = known ∙ c.names ∙ r.names;
-  statements = rw (known ∙ c.names ∙ r.names, same) (closes_said above (names_above above) old.statements closed.statements old.«open» r.said c.said);
+  statements = rw (known ∙ c.names ∙ r.names, same) (closes_said above (names_above above) old.statements closed.statements old.open_names r.said c.said);
 }

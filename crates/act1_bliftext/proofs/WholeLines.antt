@@ -5,10 +5,10 @@ use Rattle.std.specs.Borrow.{Bor}
 use Rattle.std.proofs.lemmas.Grind.{reverse_onto}
 use Rattle.act1_base.specs.declared.texts.Stop.{Stop}
 use Rattle.act1_base.specs.declared.texts.Stop.TheVariants.{Fault}
-use Rattle.act1_bliftext.specs.Lines.{Line, line_of}
+use Rattle.act1_bliftext.specs.Lines.{Line, line_of, over}
 use Rattle.act1_bliftext.specs.Faults.{first_fault, fault_at, fault_of}
-use Rattle.act1_bliftext.specs.Reading.{IsRead, TakesLine}
-use Rattle.act1_bliftext.specs.Places.{over, Faultless, TakesLines, bytes_of}
+use Rattle.act1_bliftext.specs.ReadingSteps.{IsRead, TakesLine}
+use Rattle.act1_bliftext.specs.PlaceSteps.{Faultless, TakesLines, bytes_of}
 use Rattle.act1_bliftext.specs.declared.fault.BlifFault.{BlifFault}
 use Rattle.act1_bliftext.specs.declared.fault.BlifKind.{BlifKind}
 use Rattle.act1_bliftext.specs.declared.reading.Reading.{Reading}

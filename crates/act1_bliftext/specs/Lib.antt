@@ -1,11 +1,12 @@
-pub mod Exact
 pub mod Faults
 pub mod Forms
-pub mod Latches
+pub mod LatchSteps
+pub mod Laws
 pub mod Lines
-pub mod Numbering
-pub mod Places
-pub mod Reading
+pub mod NumberingSteps
+pub mod PlaceSteps
+pub mod Printing
+pub mod ReadingSteps
 pub mod Rows
 pub mod Rules
 pub mod Statements

@@ -65,3 +65,13 @@ line_of number (first ∷ rest) = record { number = number; first = first; rest 
 -- the lines with words of a text, in order
 abbrev pub text_lines : List ℕ → List Line
 text_lines bytes = flat_map (λ (joined : Joined). line_of joined.number (words_of joined.bytes)) (joined_from 1 (lines_of bytes))
+
+-- the lines of these words, the first of them with this number
+abbrev pub lines_from : ℕ → List (List (List ℕ)) → List Line
+lines_from number [] = []
+lines_from number (words ∷ lines) = line_of number words ++ lines_from (number + 1) lines
+
+-- lines above, listed from the nearest to the first, with more lines below them
+abbrev pub over : List Line → List Line → List Line
+over [] above = above
+over (line ∷ lines) above = over lines (line ∷ above)

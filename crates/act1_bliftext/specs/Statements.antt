@@ -29,6 +29,10 @@ pub record Block : Type 0 where
   pub head : Line
   pub rows : List Line
 
+-- a line with the rows under it
+abbrev pub block_with : Line → List Line → Block
+block_with head rows = record { head = head; rows = rows }
+
 -- lines of this form say something of the netlist
 abbrev pub is_said : Form → Bool
 is_said form.Inputs = true
@@ -41,7 +45,7 @@ is_said _ = false
 -- a line with its rows, if it says something of the netlist
 abbrev pub block_of : Option Line → List Line → List Block
 block_of None rows = []
-block_of (Some head) rows = if is_said (form_of head.first) then record { head = head; rows = rows } ∷ [] else []
+block_of (Some head) rows = if is_said (form_of head.first) then block_with head rows ∷ [] else []
 
 -- the blocks above, in the order of the text, without the last one, to which more rows may come
 abbrev pub earlier_blocks : List Line → List Block

@@ -1,6 +1,6 @@
-ghost use Rattle.std.specs.Prelude.{◌≡◌, ◌≤◌, ◌++◌, ◌∷◌, [], true, length, map, IfOk};
-ghost use Rattle.act1_bliftext.specs.Latches.{control_word, bytes_in};
-ghost use Rattle.act1_bliftext.specs.Reading.{FormGives, IsPort, LatchFollows};
+ghost use Rattle.std.specs.Prelude.{ℕ, ◌≡◌, ◌≤◌, ◌++◌, ◌∷◌, [], true, length, map, IfOk};
+ghost use Rattle.act1_bliftext.specs.LatchSteps.{control_word, bytes_in};
+ghost use Rattle.act1_bliftext.specs.ReadingSteps.{FormGives, IsPort, LatchFollows};
 ghost use Rattle.act1_bliftext.specs.Forms.{model_name};
 ghost use Rattle.act1_bliftext.specs.Statements.{form_in, numbers_in};
 ghost use Rattle.act1_bliftext.specs.declared.form.Form.TheVariants as form;
@@ -9,11 +9,36 @@ use crate::fault::BlifKind;
 use crate::form::Form;
 use crate::forms::has_long;
 use crate::latch::{add_latch, latch_rest, latch_statement};
+use crate::names::Names;
 use crate::open_names::OpenNames;
 use crate::reading::Reading;
 use crate::statement::{NumberedStatement, Statement};
 use act1_base::{Items, Memory, Name, Stop};
 use std::alloc::Global;
+
+// The reading after a line with words under which no row may stand.
+fn without_rows(
+    model: Option<Name>,
+    names: Names,
+    statements: Items<NumberedStatement>,
+    has_ended: bool,
+) -> Reading
+    ensures model { result.model ≡ model }
+    ensures names { result.names ≡ names }
+    ensures statements { result.statements ≡ statements }
+    ensures closed { result.open_names ≡ None }
+    ensures later { result.is_later ≡ true }
+    ensures ended { result.has_ended ≡ has_ended }
+{
+    Reading {
+        model,
+        names,
+        statements,
+        open_names: None,
+        is_later: true,
+        has_ended,
+    }
+}
 
 // The name behind `.model`.
 fn model_name(alloc: Global, rest: &[&[u8]]) -> Result<Option<Name>, Memory>
@@ -29,10 +54,9 @@ fn model_name(alloc: Global, rest: &[&[u8]]) -> Result<Option<Name>, Memory>
 pub fn after_model(
     alloc: Global,
     reading: Reading,
-    number: u32,
     rest: &[&[u8]],
 ) -> Result<Reading, Stop<BlifKind>>
-    ensures { FormGives form.Model number (map (λ w. w.now) rest.now) reading result }
+    ensures { (number : ℕ) → FormGives form.Model number (map (λ w. w.now) rest.now) reading result }
 {
     if rest.len() > 1 {
         return Err(Stop::Fault(BlifKind::Shape));
@@ -51,14 +75,8 @@ pub fn after_model(
         statements,
         ..
     } = reading;
-    Ok(Reading {
-        model: model_name(alloc, rest)?,
-        names,
-        statements,
-        open: None,
-        is_later: true,
-        has_ended: false,
-    })
+    let model = model_name(alloc, rest)?;
+    Ok(without_rows(model, names, statements, false))
 }
 
 // What a line of ports with these numbers of names says.
@@ -104,7 +122,7 @@ pub fn after_ports(
         model,
         names,
         statements,
-        open: None,
+        open_names: None,
         is_later: true,
         has_ended: false,
     })
@@ -161,7 +179,7 @@ pub fn after_names(
         model,
         names,
         statements,
-        open: Some(open_names(alloc, number, numbers)),
+        open_names: Some(open_names(alloc, number, numbers)),
         is_later: true,
         has_ended: false,
     })
@@ -193,14 +211,7 @@ fn with_latch(
         line: number,
         statement: latch_statement(numbers.as_slice(), init),
     })?;
-    Ok(Reading {
-        model,
-        names,
-        statements,
-        open: None,
-        is_later: true,
-        has_ended: false,
-    })
+    Ok(without_rows(model, names, statements, false))
 }
 
 // The reading after a latch of these words.
@@ -238,8 +249,8 @@ pub fn after_latch(
 }
 
 /// The reading after an `.end`.
-pub fn after_end(reading: Reading, number: u32, rest: &[&[u8]]) -> Result<Reading, Stop<BlifKind>>
-    ensures { FormGives form.End number (map (λ w. w.now) rest.now) reading result }
+pub fn after_end(reading: Reading, rest: &[&[u8]]) -> Result<Reading, Stop<BlifKind>>
+    ensures { (number : ℕ) → FormGives form.End number (map (λ w. w.now) rest.now) reading result }
 {
     if !rest.is_empty() {
         return Err(Stop::Fault(BlifKind::Shape));
@@ -253,12 +264,5 @@ pub fn after_end(reading: Reading, number: u32, rest: &[&[u8]]) -> Result<Readin
         statements,
         ..
     } = reading;
-    Ok(Reading {
-        model,
-        names,
-        statements,
-        open: None,
-        is_later: true,
-        has_ended: true,
-    })
+    Ok(without_rows(model, names, statements, true))
 }

@@ -1,8 +1,8 @@
 ghost use Rattle.std.specs.Prelude.{List, ◌≡◌, ◌⊎◌, ◌≤◌, length, IfOk, IfErr};
 ghost use Rattle.act1_bliftext.specs.Faults.{LineBad};
 ghost use Rattle.act1_bliftext.specs.Lines.{Line};
-ghost use Rattle.act1_bliftext.specs.Places.{IsWhole};
-ghost use Rattle.act1_bliftext.specs.Reading.{IsRead};
+ghost use Rattle.act1_bliftext.specs.PlaceSteps.{IsWhole};
+ghost use Rattle.act1_bliftext.specs.ReadingSteps.{IsRead};
 ghost use Rattle.act1_bliftext.specs.Statements.{Say, StatementsOf};
 ghost use Rattle.act1_bliftext.specs.declared.fault.BlifKind.TheVariants as kind;
 

@@ -2,8 +2,8 @@ ghost use Rattle.std.specs.Prelude.{ℕ, List, ◌≡◌, ◌≤◌, ◌∷◌, 
 ghost use Rattle.std.specs.Option.{option_map};
 ghost use Rattle.std.specs.Borrow.{Bor};
 ghost use Rattle.act1_bliftext.specs.Forms.{control_names};
-ghost use Rattle.act1_bliftext.specs.Latches.{LatchGives, control_word, StartGives, IsLatch};
-ghost use Rattle.act1_bliftext.specs.Numbering.{AddsNames};
+ghost use Rattle.act1_bliftext.specs.LatchSteps.{LatchGives, control_word, StartGives, IsLatch};
+ghost use Rattle.act1_bliftext.specs.NumberingSteps.{AddsNames};
 
 use crate::fault::BlifKind;
 use crate::forms::{init_value, is};

@@ -1,5 +1,5 @@
 ghost use Rattle.std.specs.Prelude.{◌≡◌, [], map, IfOk};
-ghost use Rattle.act1_bliftext.specs.Numbering.{Numbers, NumbersAll, AddsNames};
+ghost use Rattle.act1_bliftext.specs.NumberingSteps.{Numbers, NumbersAll, AddsNames};
 
 use crate::fault::BlifKind;
 use crate::forms::has_long;

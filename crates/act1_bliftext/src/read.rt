@@ -1,8 +1,8 @@
 ghost use Rattle.std.specs.Prelude.{ℕ, List, ◌≡◌, ◌≢◌, ◌+◌, ◌<◌, ◌≤◌, ◌^◌, ◌∷◌, [], length, sum_by, IfOk, IfErr};
 ghost use Rattle.act1_base.specs.Lines.{lines_of};
 ghost use Rattle.act1_bliftext.specs.Lines.{Line, line_of, text_lines};
-ghost use Rattle.act1_bliftext.specs.Places.{AllGives, IsEnd, IsPlace, StepGives, TakesLines, bytes_of, kept_bytes};
-ghost use Rattle.act1_bliftext.specs.Reading.{IsRead, open_marks};
+ghost use Rattle.act1_bliftext.specs.PlaceSteps.{AllGives, IsEnd, IsPlace, StepGives, TakesLines, bytes_of, kept_bytes};
+ghost use Rattle.act1_bliftext.specs.ReadingSteps.{IsRead, open_marks};
 
 use crate::fault::{BlifFault, BlifKind};
 use crate::names::Names;
@@ -22,9 +22,9 @@ fn take_line(
     first: &[u8],
     rest: &[&[u8]],
 ) -> Result<Reading, BlifFault>
-    requires { open_marks reading.open + length first.now < 2 ^ 32 }
+    requires { open_marks reading.open_names + length first.now < 2 ^ 32 }
     ensures takes { (above : List Line) → IsRead above reading → TakesLines above (record { number = number; first = first.now; rest = bytes_of rest.now } ∷ []) result }
-    ensures marks { IfOk result (λ r. open_marks r.open ≤ open_marks reading.open + length first.now) }
+    ensures marks { IfOk result (λ r. open_marks r.open_names ≤ open_marks reading.open_names + length first.now) }
 {
     match after_line(alloc, reading, number, first, rest) {
         Ok(next) => Ok(next),
@@ -43,9 +43,9 @@ fn take_words(
     number: u32,
     words: &[&[u8]],
 ) -> Result<Reading, BlifFault>
-    requires { open_marks reading.open + sum_by length (bytes_of words.now) < 2 ^ 32 }
+    requires { open_marks reading.open_names + sum_by length (bytes_of words.now) < 2 ^ 32 }
     ensures takes { (above : List Line) → IsRead above reading → TakesLines above (line_of number (bytes_of words.now)) result }
-    ensures marks { IfOk result (λ r. open_marks r.open ≤ open_marks reading.open + sum_by length (bytes_of words.now)) }
+    ensures marks { IfOk result (λ r. open_marks r.open_names ≤ open_marks reading.open_names + sum_by length (bytes_of words.now)) }
 {
     match words {
         [first, rest @ ..] => take_line(alloc, reading, number, first, rest),
@@ -130,7 +130,7 @@ fn start<'a>(alloc: Global) -> Place<'a>
             model: None,
             names: Names::new(alloc),
             statements: Items::new(alloc),
-            open: None,
+            open_names: None,
             is_later: false,
             has_ended: false,
         },

@@ -13,7 +13,7 @@ pub struct Reading {
     /// What is said so far, but for a last `.names` that is still open.
     pub statements: Items<NumberedStatement>,
     /// The `.names` to which a row would belong.
-    pub open: Option<OpenNames>,
+    pub open_names: Option<OpenNames>,
     /// Whether there was a line with words.
     pub is_later: bool,
     /// Whether there was an `.end`.

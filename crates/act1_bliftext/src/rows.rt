@@ -1,7 +1,7 @@
 ghost use Rattle.std.specs.Prelude.{◌≡◌, ◌+◌, ◌<◌, ◌^◌, length, map, IfOk};
 ghost use Rattle.std.specs.List.{list_all};
 ghost use Rattle.act1_bliftext.specs.Rows.{is_mark, mark_of, is_value, is_one, are_parts, differ};
-ghost use Rattle.act1_bliftext.specs.Reading.{RowGives, PartsGive, HasRow, mark_count, mixes};
+ghost use Rattle.act1_bliftext.specs.ReadingSteps.{RowGives, PartsGive, HasRow, mark_count, mixes};
 
 use crate::fault::BlifKind;
 use crate::forms::is;

@@ -1,6 +1,6 @@
 ghost use Rattle.std.specs.Prelude.{ℕ, List, ◌≡◌, ◌+◌, ◌<◌, ◌≤◌, ◌^◌, length, map, IfOk};
 ghost use Rattle.act1_bliftext.specs.Lines.{Line};
-ghost use Rattle.act1_bliftext.specs.Reading.{FormGives, IsClosed, IsNames, IsRead, IsNoRow, TakesLine, UnderGives, open_marks};
+ghost use Rattle.act1_bliftext.specs.ReadingSteps.{FormGives, IsClosed, IsNames, IsRead, IsNoRow, TakesLine, UnderGives, open_marks};
 
 use crate::after::{after_end, after_latch, after_model, after_names, after_ports};
 use crate::fault::BlifKind;
@@ -50,18 +50,18 @@ pub fn closed(reading: Reading) -> Result<Reading, Memory>
         model,
         names,
         mut statements,
-        open,
+        open_names,
         is_later,
         has_ended,
     } = reading;
-    if let Some(names) = open {
+    if let Some(names) = open_names {
         statements.push(statement_of(names))?;
     }
     Ok(Reading {
         model,
         names,
         statements,
-        open: None,
+        open_names: None,
         is_later,
         has_ended,
     })
@@ -74,25 +74,25 @@ fn after_row(
     first: &[u8],
     rest: &[&[u8]],
 ) -> Result<Reading, Stop<BlifKind>>
-    requires { open_marks reading.open + length first.now < 2 ^ 32 }
-    ensures { UnderGives reading.open first.now (map (λ w. w.now) rest.now) reading result }
+    requires { open_marks reading.open_names + length first.now < 2 ^ 32 }
+    ensures { UnderGives reading.open_names first.now (map (λ w. w.now) rest.now) reading result }
 {
     let Reading {
         model,
         names,
         statements,
-        open,
+        open_names,
         has_ended,
         ..
     } = reading;
-    let Some(open) = open else {
+    let Some(open_names) = open_names else {
         return Err(Stop::Fault(BlifKind::Row));
     };
     Ok(Reading {
         model,
         names,
         statements,
-        open: Some(row_under(alloc, open, first, rest)?),
+        open_names: Some(row_under(alloc, open_names, first, rest)?),
         is_later: true,
         has_ended,
     })
@@ -110,13 +110,13 @@ fn after_form(
     ensures { FormGives form number (map (λ w. w.now) rest.now) reading result }
 {
     match form {
-        Form::Model => after_model(alloc, reading, number, rest),
+        Form::Model => after_model(alloc, reading, rest),
         Form::Inputs | Form::Outputs | Form::Clock => {
             after_ports(alloc, reading, form, number, rest)
         }
         Form::Names => after_names(alloc, reading, number, rest),
         Form::Latch => after_latch(alloc, reading, number, rest),
-        Form::End => after_end(reading, number, rest),
+        Form::End => after_end(reading, rest),
         Form::Unknown => Err(Stop::Fault(BlifKind::Word)),
         Form::Row => unreachable!(),
     }
@@ -130,9 +130,9 @@ pub fn after_line(
     first: &[u8],
     rest: &[&[u8]],
 ) -> Result<Reading, Stop<BlifKind>>
-    requires { open_marks reading.open + length first.now < 2 ^ 32 }
+    requires { open_marks reading.open_names + length first.now < 2 ^ 32 }
     ensures takes { (above : List Line) → IsRead above reading → TakesLine above (record { number = number; first = first.now; rest = map (λ w. w.now) rest.now }) result }
-    ensures marks { IfOk result (λ r. open_marks r.open ≤ open_marks reading.open + length first.now) }
+    ensures marks { IfOk result (λ r. open_marks r.open_names ≤ open_marks reading.open_names + length first.now) }
 {
     if is_byte_fault(first, rest) {
         return Err(Stop::Fault(BlifKind::Byte));

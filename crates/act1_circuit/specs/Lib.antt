@@ -1,5 +1,4 @@
-pub mod Constant
 pub mod Firing
-pub mod Meaning
 pub mod Range
+pub mod SourceWords
 pub mod Spots

@@ -1,13 +1,10 @@
-//! Circuits of logic modules, how their modules fire, and what it says that a circuit means a
-//! netlist.
+//! Circuits of logic modules, and how their modules fire.
 #![tactic(auto)]
 
 mod circuit;
 mod firing;
-mod laws;
-#[cfg(test)]
-mod tests;
+mod source_word;
 
 pub use circuit::{Circuit, Output, Placed, Source, Spot, Start};
 pub use firing::{fire, settle, value_of};
-pub use laws::{constants_mean, every_order_is_enough};
+pub use source_word::add_source;

@@ -10,7 +10,7 @@ use Rattle.act1_dd.specs.Inputs.{Inputs, with_input}
 use Rattle.act1_dd.specs.Forks.{DependsOn}
 use Rattle.act1_dd.specs.Diagram.{value_at, IsRef, IsFrom, IsReduced, size_of}
 use Rattle.act1_dd.specs.Steps.{HasVariable, IsPart}
-use Rattle.act1_dd.proofs.Gets.{one_at, get_in, get_within}
+use Rattle.act1_base.proofs.ListGets.{one_at, get_in, get_within}
 use Rattle.act1_dd.proofs.Values.{two_values, value_node, value_zero, value_one, within_size}
 
 pub with_same : (x : Inputs) (v : ℕ) (b : Bool) → with_input x v b v ≡ b

@@ -9,7 +9,7 @@ use Rattle.act1_dd.specs.Inputs.{Inputs, Function, with_input, fixed_below}
 use Rattle.act1_dd.specs.Forks.{IsSame, DependsOn, IsForkOf}
 use Rattle.act1_dd.specs.Diagram.{value_at, IsRef, IsReduced, IsUnder, size_of}
 use Rattle.act1_dd.specs.Diagram.IsUnder.{itself, low_of, high_of}
-use Rattle.act1_dd.proofs.Gets.{get_in, get_within, one_at}
+use Rattle.act1_base.proofs.ListGets.{get_in, get_within, one_at}
 use Rattle.act1_dd.proofs.Values.{two_values, value_zero, value_one}
 use Rattle.act1_dd.proofs.Canonical.{agree_from, fork_depends, from_own, from_weaker, high_part, low_part, part_refs, value_high, value_low}
 use Rattle.act1_dd.proofs.Walks.{IsReached, fixed_low, fixed_high, part_reached, root_reached}

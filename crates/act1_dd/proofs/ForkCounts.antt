@@ -8,9 +8,9 @@ use Rattle.act1_dd.specs.declared.refs.Branch.{Branch}
 use Rattle.act1_dd.specs.Inputs.{Function}
 use Rattle.act1_dd.specs.Forks.{IsSame, IsForkOf, HasMoreForks}
 use Rattle.act1_dd.specs.Diagram.{value_at, IsRef, IsReduced}
-use Rattle.act1_dd.proofs.Gets.{one_at, get_within, place_of}
+use Rattle.act1_base.proofs.ListGets.{one_at, get_within, place_of}
 use Rattle.act1_dd.proofs.Canonical.{fork_depends, same_refs}
-use Rattle.act1_dd.proofs.Pigeonhole.{NotIn, Distinct, Below, pigeonhole}
+use Rattle.act1_base.proofs.Pigeonhole.{NotIn, Distinct, Below, pigeonhole}
 use Rattle.act1_dd.proofs.Descents.{fork_among}
 use Rattle.act1_dd.proofs.Walks.{IsListed, IsReached, IsWalk}
 

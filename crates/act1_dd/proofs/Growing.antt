@@ -7,7 +7,7 @@ use Rattle.act1_dd.specs.declared.refs.Ref.TheVariants.{Zero, One, Node}
 use Rattle.act1_dd.specs.declared.refs.Branch.{Branch}
 use Rattle.act1_dd.specs.Diagram.{IsRef, IsFrom, IsReduced, IsBranchOf, Keeps, size_of}
 use Rattle.act1_dd.specs.Steps.{IsNumbered}
-use Rattle.act1_dd.proofs.Gets.{get_more, get_cases, contains_at}
+use Rattle.act1_base.proofs.ListGets.{get_more, get_cases, contains_at}
 use Rattle.act1_dd.proofs.Values.{value_node, value_more, size_within}
 use Rattle.act1_dd.proofs.Canonical.{part_refs}
 

@@ -2,11 +2,9 @@ pub mod Canonical
 pub mod Choices
 pub mod Descents
 pub mod ForkCounts
-pub mod Gets
 pub mod Growing
 pub mod Memo
 pub mod Parts
-pub mod Pigeonhole
 pub mod Restrictions
 pub mod Rows
 pub mod Samples

@@ -10,7 +10,7 @@ use Rattle.act1_dd.specs.declared.refs.Question.TheVariants.{Choose, Restrict}
 use Rattle.act1_dd.specs.contracts.refs.QuestionPartialEq.TheImpl.{eq-value}
 use Rattle.act1_dd.specs.Inputs.{with_input}
 use Rattle.act1_dd.specs.Diagram.{IsRef, IsChoice, Keeps}
-use Rattle.act1_dd.specs.Answers.{IsAsked, HasValue, IsAnswer, AreAnswers}
+use Rattle.act1_dd.specs.MemoSteps.{IsAsked, HasValue, IsAnswer, AreAnswers}
 use Rattle.act1_dd.proofs.Values.{two_values}
 
 same_question : (p q : Question) → eq-value.it p q ≡ true → p ≡ q

@@ -6,7 +6,7 @@ use Rattle.act1_dd.specs.declared.refs.Ref.TheVariants.{Zero, One, Node}
 use Rattle.act1_dd.specs.declared.refs.Branch.{Branch}
 use Rattle.act1_dd.specs.Inputs.{Inputs, with_input}
 use Rattle.act1_dd.specs.Diagram.{value_at, IsRef, IsFrom, IsReduced, IsRestriction, IsForkInto, Keeps}
-use Rattle.act1_dd.proofs.Gets.{get_within}
+use Rattle.act1_base.proofs.ListGets.{get_within}
 use Rattle.act1_dd.proofs.Values.{two_values, value_zero, value_one}
 use Rattle.act1_dd.proofs.Canonical.{with_same, with_other, agree_from, apart, from_own, from_values, from_weaker, high_part, low_part, part_refs, value_high, value_low}
 use Rattle.act1_dd.proofs.Growing.{keeps_then}

@@ -20,7 +20,7 @@ use Rattle.act1_dd.specs.Forks.{HasMoreForks, IsForkOf}
 use Rattle.act1_dd.specs.Diagram.{value_at, IsRef, IsChoice, IsForkInto, IsWithin, Keeps}
 use Rattle.act1_dd.specs.Steps.{AreMarks, IsConstant, IsMarked, IsMore}
 use Rattle.act1_dd.specs.Limit.{rows_function, first_rows, cover_function}
-use Rattle.act1_dd.proofs.Gets.{some_is, get_within}
+use Rattle.act1_base.proofs.ListGets.{some_is, get_within}
 use Rattle.act1_dd.proofs.Values.{value_zero, value_one}
 
 -- a fork into a mark's parts

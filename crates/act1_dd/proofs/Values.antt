@@ -7,7 +7,7 @@ use Rattle.act1_dd.specs.declared.refs.Ref.TheVariants.{Zero, One, Node}
 use Rattle.act1_dd.specs.declared.refs.Branch.{Branch}
 use Rattle.act1_dd.specs.Inputs.{Inputs}
 use Rattle.act1_dd.specs.Diagram.{value_by, value_of_branch, values_after, value_at, IsRef, size_of}
-use Rattle.act1_dd.proofs.Gets.{some_is}
+use Rattle.act1_base.proofs.ListGets.{some_is}
 
 pub same_inputs : (x y : Inputs) → ((k : ℕ) → x k ≡ y k) → x ≡ y
 same_inputs x y h = λ i k. h k i

@@ -11,7 +11,7 @@ use Rattle.act1_dd.specs.declared.refs.Branch.{Branch}
 use Rattle.act1_dd.specs.Inputs.{Inputs, with_input, fixed_below}
 use Rattle.act1_dd.specs.Diagram.{value_at, IsRef, IsFrom, IsReduced}
 use Rattle.act1_dd.specs.Steps.{with_found, IsPart}
-use Rattle.act1_dd.proofs.Gets.{one_at, get_in, get_within, get_more, get_last, get_cases, contains_at, place_of}
+use Rattle.act1_base.proofs.ListGets.{one_at, get_in, get_within, get_more, get_last, get_cases, contains_at, place_of}
 use Rattle.act1_dd.proofs.Values.{two_values, same_inputs}
 use Rattle.act1_dd.proofs.Canonical.{with_same, with_other, agree_from, from_own, low_part, high_part}
 

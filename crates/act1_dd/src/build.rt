@@ -6,7 +6,7 @@ use act1_base::Memory;
 impl Diagrams {
     ghost use Rattle.std.specs.Prelude.{◌≡◌, ◌<◌, ◌≤◌, ◌+◌, ◌⊎◌, IfOk, IfSome};
     ghost use Rattle.act1_dd.specs.Diagram.{Keeps, IsChoice, IsForkInto, IsFrom, IsRef, IsRestriction, IsVariable};
-    ghost use Rattle.act1_dd.specs.Answers.{IsAnswer};
+    ghost use Rattle.act1_dd.specs.MemoSteps.{IsAnswer};
     ghost use Rattle.act1_dd.specs.Steps.{AreRefs, HasVariable, IsFirst, IsNode, IsPart, IsSide, IsSplit};
 
     // The fork of a variable and two parts. A fork whose parts are the same is that part.

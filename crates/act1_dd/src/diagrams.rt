@@ -20,7 +20,7 @@ impl Model for Diagrams {
     ghost use Rattle.std.specs.Prelude.{List};
     ghost use Rattle.act1_dd.specs.declared.refs.Branch.{Branch as Fork};
     ghost use Rattle.act1_dd.specs.Diagram.{IsReduced};
-    ghost use Rattle.act1_dd.specs.Answers.{AreAnswers};
+    ghost use Rattle.act1_dd.specs.MemoSteps.{AreAnswers};
 
     ghost Value = { List Fork };
 

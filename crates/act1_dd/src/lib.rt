@@ -10,8 +10,6 @@ mod fault;
 mod laws;
 mod number;
 mod refs;
-#[cfg(test)]
-mod tests;
 
 pub use diagrams::Diagrams;
 pub use fault::DdFault;

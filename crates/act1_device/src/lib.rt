@@ -3,6 +3,10 @@
 #![tactic(auto)]
 
 mod device;
+mod laws;
+mod pins;
 mod sites;
 
 pub use device::{Device, Line, Long, PadPlace, Site, Track, Wire};
+pub use laws::devices_are_small;
+pub use pins::name_of_pin;

@@ -12,7 +12,8 @@ use Rattle.act1_devread.specs.Rules.{first_fault, rules_of}
 use Rattle.act1_devread.specs.declared.values.Values.{Values}
 use Rattle.act1_devread.specs.Document.{IsDocument, values_of}
 use Rattle.act1_devread.proofs.FaultOrder.{no_fault}
-use Rattle.act1_devread.specs.Text.{HasValues, DeviceBad, no_document, broken, NeverBoth, OneFault, OneDevice}
+use Rattle.act1_devread.specs.Laws.{NeverBoth, OneFault, OneDevice}
+use Rattle.act1_devread.specs.Text.{HasValues, DeviceBad, no_document, broken}
 
 same_members : (bytes : List ℕ) (ms other : Members) → IsDocument bytes ms → IsDocument bytes other → ms ≡ other
 same_members bytes ms other a b = let same : Some ms ≡ Some other = sym a.1 ∙ b.1 in cc

@@ -13,7 +13,8 @@ use Rattle.act1_devread.specs.declared.values.Values.{Values}
 use Rattle.act1_devread.specs.Document.{IsDocument, values_of}
 use Rattle.act1_devread.specs.Range.{natural, naturals, pins_of, long_of, place_of}
 use Rattle.act1_devread.specs.Rules.{first_fault, rules_of, missing_rules, kind_rules, size_rules, list_rules}
-use Rattle.act1_devread.specs.Text.{HasValues, no_document, broken, IsDevices, IsRefused, EachText}
+use Rattle.act1_devread.specs.Laws.{IsDevices, IsRefused, EachText}
+use Rattle.act1_devread.specs.Text.{HasValues, no_document, broken}
 use Rattle.act1_devread.proofs.FaultOrder.{first_holds, both_hold}
 use Rattle.act1_devread.proofs.Valid.{device_of_values}
 

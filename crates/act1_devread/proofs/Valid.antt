@@ -10,7 +10,7 @@ use Rattle.act1_device.specs.declared.device.Long.{Long}
 use Rattle.act1_device.specs.declared.device.PadPlace.{PadPlace}
 use Rattle.act1_devread.specs.Range.{natural, naturals, is_natural, is_number, are_natural, are_longs, are_places, long_of, place_of}
 use Rattle.act1_devread.specs.Rules.{first_fault, size_rules}
-use Rattle.act1_devread.specs.Text.{HasSizes}
+use Rattle.act1_devread.specs.ReadingSteps.{HasSizes}
 use Rattle.act1_devread.proofs.FaultOrder.{first_holds}
 
 -- where each element passes two tests, its image passes the second

@@ -1,5 +1,7 @@
 pub mod Document
+pub mod FaultWords
+pub mod Laws
 pub mod Range
+pub mod ReadingSteps
 pub mod Rules
-pub mod Steps
 pub mod Text

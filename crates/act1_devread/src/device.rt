@@ -2,8 +2,8 @@ ghost use Rattle.std.specs.Prelude.{◌≡◌, None, map};
 ghost use Rattle.act1_device.specs.Rules.{are_channels};
 ghost use Rattle.act1_devread.specs.Range.{naturals, long_of, place_of, are_longs, are_places};
 ghost use Rattle.act1_devread.specs.Rules.{first_fault, size_rules, list_rules};
-ghost use Rattle.act1_devread.specs.Steps.{fault, AsksWithMemory, Follows};
-ghost use Rattle.act1_devread.specs.Text.{HasSizes, HasValues};
+ghost use Rattle.act1_devread.specs.ReadingSteps.{fault, AsksWithMemory, Follows, HasSizes};
+ghost use Rattle.act1_devread.specs.Text.{HasValues};
 
 use crate::fault::{DeviceFault, DeviceKind};
 use crate::places::{are_apart, longs_of, places_of};

@@ -3,7 +3,7 @@ ghost use Rattle.std.specs.BTreeMap.{keys};
 ghost use Rattle.std.specs.List.{list_all};
 ghost use Rattle.toml.specs.Data.{get_member};
 ghost use Rattle.toml.specs.View.{view, table_view};
-ghost use Rattle.act1_devread.specs.Steps.{fault, Asks, Follows};
+ghost use Rattle.act1_devread.specs.ReadingSteps.{fault, Asks, Follows};
 ghost use Rattle.act1_devread.specs.Rules.{missing_rules, unknown_rules, is_known, has_only_known};
 
 use crate::fault::{DeviceFault, DeviceKind};

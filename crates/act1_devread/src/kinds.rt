@@ -2,7 +2,7 @@ ghost use Rattle.std.specs.Prelude.{◌≡◌, [], is_some, unwrap_or, pos};
 ghost use Rattle.toml.specs.View.{table_view};
 ghost use Rattle.act1_devread.specs.Document.{integer_at, text_at, tracks_at, pairs_at, values_of};
 ghost use Rattle.act1_devread.specs.Rules.{kind_rules};
-ghost use Rattle.act1_devread.specs.Steps.{fault, Asks, AsksWithMemory, Follows};
+ghost use Rattle.act1_devread.specs.ReadingSteps.{fault, Asks, AsksWithMemory, Follows};
 
 use crate::fault::{DeviceFault, DeviceKind};
 use crate::keys::value_at;

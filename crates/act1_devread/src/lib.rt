@@ -3,8 +3,10 @@
 
 mod device;
 mod fault;
+mod fault_line;
 mod keys;
 mod kinds;
+mod laws;
 mod lists;
 mod places;
 mod ranges;
@@ -13,7 +15,6 @@ mod tracks;
 mod values;
 
 pub use fault::{DeviceFault, DeviceKind};
-pub use read::{read_device, texts_are_exact};
-
-#[cfg(test)]
-mod tests;
+pub use fault_line::write_device_fault;
+pub use laws::texts_are_exact;
+pub use read::read_device;

@@ -3,8 +3,7 @@ ghost use Rattle.std.specs.List.{list_all};
 ghost use Rattle.act1_device.specs.Rules.{is_device_byte, is_device_name};
 ghost use Rattle.act1_devread.specs.Range.{natural, is_number, is_letter, are_letters, pins_of};
 ghost use Rattle.act1_devread.specs.Rules.{size_rules};
-ghost use Rattle.act1_devread.specs.Steps.{fault, Asks, Follows};
-ghost use Rattle.act1_devread.specs.Text.{HasSizes};
+ghost use Rattle.act1_devread.specs.ReadingSteps.{fault, Asks, Follows, HasSizes};
 
 use crate::fault::{DeviceFault, DeviceKind};
 use crate::values::{Sizes, Values};

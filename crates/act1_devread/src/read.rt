@@ -2,8 +2,8 @@ ghost use Rattle.std.specs.Prelude.{◌≡◌, ◌≢◌, IfOk, IfErr};
 ghost use Rattle.toml.specs.View.{table_view};
 ghost use Rattle.act1_devread.specs.Document.{values_of};
 ghost use Rattle.act1_devread.specs.Rules.{rules_of};
-ghost use Rattle.act1_devread.specs.Steps.{Follows};
-ghost use Rattle.act1_devread.specs.Text.{DeviceText, DeviceBad, HasValues, EachText, NeverBoth, OneFault, OneDevice};
+ghost use Rattle.act1_devread.specs.ReadingSteps.{Follows};
+ghost use Rattle.act1_devread.specs.Text.{DeviceText, DeviceBad, HasValues};
 
 use crate::device::device_of;
 use crate::fault::{DeviceFault, DeviceKind};
@@ -58,12 +58,3 @@ fn device_in(alloc: Global, table: &Table) -> Result<Device, DeviceFault>
     check_known(table)?;
     Ok(device)
 }
-
-/// The law of device texts: each text is a device's or refused, none is both, none is refused with
-/// two faults, and none is of two devices.
-pub fn texts_are_exact()
-    ensures each_text { EachText }
-    ensures never_both { NeverBoth }
-    ensures one_fault { OneFault }
-    ensures one_device { OneDevice }
-{}

@@ -26,17 +26,17 @@ use Rattle.act1_circuit.specs.declared.circuit.Placed.{Placed}
 use Rattle.act1_circuit.specs.declared.circuit.Source.{Source}
 use Rattle.act1_circuit.specs.declared.circuit.Source.TheVariants.{Zero, One}
 use Rattle.act1_circuit.specs.declared.circuit.Spot.{Spot}
-use Rattle.act1_circuit.specs.Constant.{IsConstantCircuit}
+use Rattle.act1_meaning.specs.Constant.{IsConstantCircuit}
+use Rattle.act1_meaning.specs.Laws.{ConstantsMean}
 use Rattle.act1_circuit.specs.Firing.{source_value}
-use Rattle.act1_circuit.proofs.ConstantMeaning.{means}
 use Rattle.act1_fuses.specs.declared.fuses.FuseFile.{FuseFile}
 use Rattle.act1_fuses.specs.declared.fuses.Port.{Port}
 use Rattle.act1_fuses.specs.Array.{pad_wire, IsUsed, IsSource, Sound, IsCircuitOf, Drives, IsWireOf}
 use Rattle.act1_fuses.specs.Rules.{port_names, start_names, IsApart, KeepsRules}
 use Rattle.act1_fuses.specs.Wires.{links_of, Joined}
-use Rattle.act1_flow.specs.Constant.{IsConstant, constants_of}
-use Rattle.act1_flow.specs.File.{output_names, constant_file}
-use Rattle.act1_flow.specs.Rails.{rail_of, sites_of}
+use Rattle.act1_flow.specs.Constant.{IsConstant}
+use Rattle.act1_flow.specs.FileSteps.{constants_of, output_names, constant_file}
+use Rattle.act1_flow.specs.RailSteps.{rail_of, sites_of}
 use Rattle.act1_flow.specs.Realizes.{Realizes}
 use Rattle.act1_flow.proofs.NetFacts.{outputs_are_names, outputs_differ, outputs_apart}
 use Rattle.act1_flow.proofs.PortLists.{ports_names, ports_count, port_pad, port_number, pads_below, pads_once}
@@ -254,7 +254,6 @@ module _ (dev : Device) (net : Blif) (constant : IsConstant net) (enough : lengt
       inputs = sym constant.inputs;
       outputs = map_again (λ (o : Output). o.name) output_of (signal_name net) (λ s. refl) net.outputs;
       starts = All-nil _;
-      modules = All-nil _;
       apart = λ i j d less h. absurd (omega arith);
     };
     inputs = constant.inputs;
@@ -265,6 +264,6 @@ module _ (dev : Device) (net : Blif) (constant : IsConstant net) (enough : lengt
     values = map_again (λ (o : Output). source_value false [] [] o.source) output_of value_of_signal (λ s. source_is (value_of_signal s)) net.outputs;
   }
 
-  pub realizes : Realizes dev net (constant_file dev net) 0
+  pub realizes : ConstantsMean → Realizes dev net (constant_file dev net) 0
   unfolding array
-  realizes = record { keeps = keeps; sound = sound; array = array; is = is; means = means circuit net is_constant; count = refl }
+  realizes mean = record { keeps = keeps; sound = sound; array = array; is = is; means = mean circuit net is_constant; count = refl; few = omega arith }

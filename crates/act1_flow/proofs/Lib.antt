@@ -2,4 +2,3 @@ pub mod ConstantArray
 pub mod NetFacts
 pub mod PortLists
 pub mod RailLists
-pub mod TestNets

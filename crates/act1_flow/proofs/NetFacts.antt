@@ -1,13 +1,12 @@
 -- What a netlist's own rules say of a netlist of constants.
-use Rattle.std.proofs.Common.{ℕ, suc, ◌≡◌, ◌≢◌, ◌⊎◌, ◌+◌, ◌<◌, ◌≤◌, Bool, true, false, not, eqb, ◌&&◌, ◌||◌, List, [], ◌∷◌, length, map, get_or, Option, Some, None, refl, sym, ap, ◌∙◌, inl, inr, arith, All, AllPairs, IsTrue, nat_lt, nat_le, ◌==◌}
+use Rattle.std.proofs.Common.{ℕ, suc, ◌≡◌, ◌≢◌, ◌⊎◌, ◌+◌, ◌<◌, Bool, true, false, not, eqb, ◌&&◌, List, [], ◌∷◌, length, map, get_or, Option, Some, None, sym, ap, ◌∙◌, inl, inr, arith, All, AllPairs, IsTrue, nat_lt, nat_le, ◌==◌}
 use Rattle.std.specs.List.{list_all, list_any, AllByRecursion, IsDistinct}
 use Rattle.std.specs.Str.{bytes_eq}
-use Rattle.std.proofs.lemmas.Bool.{and_parts, or_parts, not-true, cases_order, leb-true, ltb-true, eqb-true, eq-eqb, false≢true}
+use Rattle.std.proofs.lemmas.Bool.{and_parts, or_parts, not-true, cases_order, ltb-true, eqb-true, eq-eqb, false≢true}
 use Rattle.std.proofs.lemmas.Slice.Eq.{bytes_eq-Decides}
 use Rattle.std.proofs.lemmas.List.{length-append, length-map, get_or-map, get_or_default}
 use Rattle.std.proofs.lemmas.List.Sums.{AllPass-from_list_all}
 use Rattle.std.proofs.lemmas.Map.Keys.{apart_from_distinct}
-use Rattle.std.proofs.lemmas.Map.Steps.{length-le_from_distinct_below}
 use Rattle.act1_base.specs.Names.{is_name, are_different, are_different_numbers}
 use Rattle.act1_blif.specs.declared.blif.Blif.{Blif}
 use Rattle.act1_blif.specs.declared.blif.Node.{Node}
@@ -15,7 +14,7 @@ use Rattle.act1_blif.specs.Names.{signal_name, signal_names}
 use Rattle.act1_blif.specs.Rules.{are_names, with_clock, is_node, is_latch}
 use Rattle.act1_fuses.specs.Rules.{IsApart}
 use Rattle.act1_flow.specs.Constant.{IsConstant}
-use Rattle.act1_flow.specs.File.{output_names}
+use Rattle.act1_flow.specs.FileSteps.{output_names}
 
 -- no element of the list passes
 none_passes : {K : Type 0} (p : K → Bool) (xs : List K) → list_any p xs ≡ false → AllByRecursion (λ (x : K). p x ≡ false) xs
@@ -36,21 +35,6 @@ numbers_distinct (n ∷ ns) h =
     let parts = and_parts (not (list_any (λ m. n == m) ns)) (are_different_numbers ns) h in
     (none_passes (λ (m : ℕ). n == m) ns (not-true _ parts.0), numbers_distinct ns parts.1)
 
-or_split : (a b : Bool) → (a || b) ≡ true → (a ≡ true) ⊎ (b ≡ true)
-or_split true b e = inl refl
-or_split false b e = inr e
-
--- a number that is among numbers below n is below n
-below_all : (n q : ℕ) (ns : List ℕ) → list_all (λ s. nat_lt s n) ns ≡ true → list_any (eqb q) ns ≡ true → q < n
-below_all n q [] h found = absurd (false≢true found)
-below_all n q (s ∷ ns) h found =
-    let parts = and_parts (nat_lt s n) (list_all (λ s. nat_lt s n) ns) h in
-    from (ltb-true s n parts.0) (λ e. below_all n q ns parts.1 e) (or_split (eqb q s) (list_any (eqb q) ns) found)
-  where
-    from : s < n → (list_any (eqb q) ns ≡ true → q < n) → (eqb q s ≡ true) ⊎ (list_any (eqb q) ns ≡ true) → q < n
-    from below rest (inl e) = let same : q ≡ s = eqb-true q s e in omega arith
-    from below rest (inr e) = rest e
-
 -- names at different places differ
 differ_at : (names : List (List ℕ)) (i j : ℕ) (d : List ℕ) → IsDistinct bytes_eq names → i < length names → j < length names → i ≢ j → get_or names i d ≢ get_or names j d
 differ_at names i j d distinct below other differ = from (cases_order i j)
@@ -64,17 +48,14 @@ differ_at names i j d distinct below other differ = from (cases_order i j)
     from (inr (inr more)) = λ e. apart j i more below (sym e)
 
 -- the names that come with a clock's name keep the rules too
-without_clock : (clock : Option (List ℕ)) (names : List (List ℕ)) → are_names (with_clock clock names) ≡ true
-    → (list_all is_name names ≡ true) × (are_different names ≡ true) × (length names ≤ 65535)
+without_clock : (clock : Option (List ℕ)) (names : List (List ℕ)) → are_names (with_clock clock names) ≡ true → (list_all is_name names ≡ true) × (are_different names ≡ true)
 without_clock None names h =
     let outer = and_parts (list_all is_name names && are_different names) (nat_le (length names) 65535) h in
-    let inner = and_parts (list_all is_name names) (are_different names) outer.0 in
-    (inner.0, inner.1, leb-true (length names) 65535 outer.1)
+    and_parts (list_all is_name names) (are_different names) outer.0
 without_clock (Some clock) names h =
     let outer = and_parts (list_all is_name (clock ∷ names) && are_different (clock ∷ names)) (nat_le (length (clock ∷ names)) 65535) h in
     let inner = and_parts (list_all is_name (clock ∷ names)) (are_different (clock ∷ names)) outer.0 in
-    let few : suc (length names) ≤ 65535 = leb-true (length (clock ∷ names)) 65535 outer.1 in
-    ((and_parts (is_name clock) (list_all is_name names) inner.0).1, (and_parts (not (list_any (bytes_eq clock) names)) (are_different names) inner.1).1, omega arith)
+    ((and_parts (is_name clock) (list_all is_name names) inner.0).1, (and_parts (not (list_any (bytes_eq clock) names)) (are_different names) inner.1).1)
 
 -- and the clock's name is none of them
 apart_from_clock : (clock : List ℕ) (names : List (List ℕ)) (k : ℕ) → are_different (clock ∷ names) ≡ true → k < length names → get_or names k clock ≢ clock
@@ -122,9 +103,6 @@ module _ (names : List (List ℕ)) (outputs : List ℕ) (within : list_all (λ s
             apart_from_clock clock names (get_or outputs k 0) inner.1 at (get_or_default names (get_or outputs k 0) clock d at ∙ sym (name_at k d here) ∙ e),
       )
 
-  few_outputs : length names ≤ 65535 → are_different_numbers outputs ≡ true → length outputs ≤ 65535
-  few_outputs few h = let fit : length outputs ≤ length names = length-le_from_distinct_below outputs (length names) (numbers_distinct outputs h) (λ q found. below_all (length names) q outputs within found) in omega arith
-
 module _ (net : Blif) where
   abbrev signal_count : ℕ
   signal_count = length net.inputs + length net.latches + length net.nodes
@@ -162,12 +140,6 @@ module _ (net : Blif) where
 
   pub outputs_apart : IsApart net.clock (output_names net)
   outputs_apart = named_apart (signal_names net) net.outputs outputs_within net.clock rules.names
-
-  pub outputs_few : length net.outputs ≤ 65535
-  outputs_few = few_outputs (signal_names net) net.outputs outputs_within (without_clock net.clock (signal_names net) rules.names).2 rules.differ
-
-  pub inputs_few : length net.inputs ≤ 65535
-  inputs_few = omega (arith, names_count, (without_clock net.clock (signal_names net) rules.names).2)
 
 module _ (net : Blif) (constant : IsConstant net) where
   pub signal_is_node : All (λ (s : ℕ). s < length net.nodes) net.outputs

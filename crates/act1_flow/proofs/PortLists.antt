@@ -2,7 +2,7 @@
 use Rattle.std.proofs.Common.{ℕ, zero, suc, ◌≡◌, ◌≢◌, ◌+◌, ◌<◌, ◌≤◌, List, [], ◌∷◌, length, map, get_or, slice_get, Some, refl, sym, ap, ◌∙◌, arith, All, AllPairs}
 use Rattle.std.proofs.lemmas.Option.{slice_get_within, get_or_from_slice_get}
 use Rattle.act1_fuses.specs.declared.fuses.Port.{Port}
-use Rattle.act1_flow.specs.File.{ports_from}
+use Rattle.act1_flow.specs.FileSteps.{ports_from}
 
 pub ports_names : (first : ℕ) (names : List (List ℕ)) → map (λ (port : Port). port.name) (ports_from first names) ≡ names
 ports_names first [] = refl

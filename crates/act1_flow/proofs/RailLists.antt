@@ -9,7 +9,7 @@ use Rattle.act1_device.specs.declared.device.Line.TheVariants as line
 use Rattle.act1_device.specs.declared.device.Site.{Site}
 use Rattle.act1_device.specs.declared.device.Site.TheVariants.{Cross}
 use Rattle.act1_device.specs.Order.{SiteIsBefore, track_number}
-use Rattle.act1_flow.specs.Rails.{rail_of, is_same, takes_rail, rail_sites, sites_below}
+use Rattle.act1_flow.specs.RailSteps.{rail_of, is_same, takes_rail, rail_sites, sites_below}
 
 -- each pair of an element of the one list and one of the other
 abbrev Before : {A : Type 0} → (A → A → Type 0) → List A → List A → Type 0

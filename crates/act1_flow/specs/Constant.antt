@@ -1,15 +1,10 @@
 -- Netlists whose outputs are constants.
-use Rattle.std.specs.Prelude.{◌≡◌, Bool, List, [], map, All}
+use Rattle.std.specs.Prelude.{◌≡◌, [], All}
 use Rattle.act1_blif.specs.declared.blif.Blif.{Blif}
 use Rattle.act1_blif.specs.declared.blif.Node.{Node}
-use Rattle.act1_blif.specs.Run.{signals, node_value}
 
 -- there are no inputs and no latches, and no node has an input; a clock may have a name
 pub record IsConstant (net : Blif) : Type 0 where
   pub inputs : net.inputs ≡ []
   pub latches : net.latches ≡ []
   pub nodes : All (λ (node : Node). node.inputs ≡ []) net.nodes
-
--- the values of the outputs of such a netlist
-abbrev pub constants_of : Blif → List Bool
-constants_of net = signals (map (node_value []) net.nodes) net.outputs

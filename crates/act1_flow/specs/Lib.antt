@@ -1,5 +1,6 @@
 pub mod Constant
-pub mod File
+pub mod FileSteps
 pub mod Flow
-pub mod Rails
+pub mod RailSteps
 pub mod Realizes
+pub mod StopWords

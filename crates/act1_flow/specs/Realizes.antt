@@ -1,14 +1,15 @@
 -- When an antifuse file realizes a netlist on a device.
-use Rattle.std.specs.Prelude.{ℕ, ◌≡◌, length}
+use Rattle.std.specs.Prelude.{ℕ, ◌≡◌, ◌≤◌, length}
 use Rattle.act1_device.specs.declared.device.Device.{Device}
 use Rattle.act1_blif.specs.declared.blif.Blif.{Blif}
+use Rattle.act1_blif.specs.Need.{need}
 use Rattle.act1_circuit.specs.declared.circuit.Placed.{Placed}
-use Rattle.act1_circuit.specs.Meaning.{Means}
+use Rattle.act1_meaning.specs.Meaning.{Means}
 use Rattle.act1_fuses.specs.declared.fuses.FuseFile.{FuseFile}
 use Rattle.act1_fuses.specs.Rules.{KeepsRules}
 use Rattle.act1_fuses.specs.Array.{Sound, IsCircuitOf}
 
--- the antifuse file alone makes a circuit of the device that drives no wire twice and means the netlist
+-- the antifuse file alone makes a circuit of the device that drives no wire twice, means the netlist and has few modules
 pub record Realizes (dev : Device) (net : Blif) (f : FuseFile) (modules : ℕ) : Type 0 where
   -- it is a file of the device
   pub keeps : KeepsRules dev f
@@ -21,3 +22,5 @@ pub record Realizes (dev : Device) (net : Blif) (f : FuseFile) (modules : ℕ) :
   pub means : Means array.circuit net
   -- the array uses so many modules
   pub count : modules ≡ length array.circuit.modules
+  -- which are no more than the netlist needs at most
+  pub few : modules ≤ need net

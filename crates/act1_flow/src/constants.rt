@@ -1,6 +1,7 @@
 ghost use Rattle.std.specs.Prelude.{◌≡◌, ◌<◌, [], IfOk, map, length};
 ghost use Rattle.act1_blif.specs.Run.{signal, node_value};
-ghost use Rattle.act1_flow.specs.Constant.{IsConstant, constants_of};
+ghost use Rattle.act1_flow.specs.Constant.{IsConstant};
+ghost use Rattle.act1_flow.specs.FileSteps.{constants_of};
 
 use act1_base::Memory;
 use act1_blif::{Blif, Node};

@@ -1,14 +1,15 @@
 ghost use Rattle.std.specs.Prelude.{◌≡◌, ◌<◌, ◌≤◌, IfOk, length};
 ghost use Rattle.act1_blif.specs.Names.{signal_name};
 ghost use Rattle.act1_flow.specs.Constant.{IsConstant};
-ghost use Rattle.act1_flow.specs.File.{ports_from, output_names, constant_file};
+ghost use Rattle.act1_flow.specs.FileSteps.{ports_from, output_names, constant_file};
 
 use crate::constants::output_constants;
 use crate::rails::output_sites;
-use act1_base::{Items, Memory, Name};
+use act1_base::{Items, Memory, Name, copy_of_name};
 use act1_blif::Blif;
 use act1_device::Device;
 use act1_fuses::{FuseFile, Port};
+use act1_meaning::ports_are_few;
 use std::alloc::Global;
 
 // A copy of the name of a signal of a netlist of constants.
@@ -22,11 +23,12 @@ fn name_of(net: &Blif, number: u16) -> Result<Name, Memory>
 }
 
 // The ports of the outputs: output o has pad o.
-#[tactic(auto, using(crate::proofs::NetFacts::outputs_few, crate::proofs::NetFacts::signal_is_node))]
+#[tactic(auto, using(crate::proofs::NetFacts::signal_is_node))]
 fn output_ports(alloc: Global, net: &Blif) -> Result<Vec<Port>, Memory>
     requires { IsConstant net.now }
     ensures { IfOk result (λ ports. ports.items ≡ ports_from 0 (output_names net.now)) }
 {
+    ports_are_few();
     let mut ports = Vec::new(alloc);
     for (pad, signal) in net.outputs.as_slice().iter().enumerate() {
         let name = name_of(net, *signal)?;
@@ -46,16 +48,13 @@ pub fn constant_file(alloc: Global, device: &Device, net: &Blif) -> Result<FuseF
     requires enough { length net.now.outputs ≤ length device.now.pads }
     ensures { IfOk result (λ file. file ≡ constant_file device.now net.now) }
 {
+    ports_are_few();
     let values = output_constants(alloc, net)?;
     let sites = output_sites(alloc, device, &values)?;
     let ports = output_ports(alloc, net)?;
-    let clock = match &net.clock {
-        Some(name) => Some(name.clone()?),
-        None => None,
-    };
     Ok(FuseFile {
         device: device.name.clone()?,
-        clock,
+        clock: copy_of_name(&net.clock)?,
         ins: Items::new(alloc),
         outs: Items::from_vec(ports),
         starts: Items::new(alloc),

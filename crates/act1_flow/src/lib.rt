@@ -6,8 +6,8 @@ mod constants;
 mod file;
 mod rails;
 mod stages;
-#[cfg(test)]
-mod tests;
+mod stop_line;
 
 pub use answer::{FlowStop, Routed};
 pub use stages::flow;
+pub use stop_line::write_flow_stop;

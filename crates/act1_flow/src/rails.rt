@@ -1,5 +1,5 @@
 ghost use Rattle.std.specs.Prelude.{◌≡◌, ◌<◌, ◌≤◌, ◌^◌, ◌++◌, IfOk, OnOk, length};
-ghost use Rattle.act1_flow.specs.Rails.{rail_of, takes_rail, rail_sites, sites_of};
+ghost use Rattle.act1_flow.specs.RailSteps.{rail_of, takes_rail, rail_sites, sites_of};
 
 use act1_base::Memory;
 use act1_device::{Device, Line, PadPlace, Site, Track};

@@ -11,7 +11,8 @@ use Rattle.act1_device.specs.declared.device.Line.TheVariants as line
 use Rattle.act1_device.specs.declared.device.Site.{Site}
 use Rattle.act1_device.specs.declared.device.Site.TheVariants.{Along, Cross}
 use Rattle.act1_fuses.proofs.Fields.{TrackFits, LineFits, SiteFits}
-use Rattle.act1_fuses.specs.Text.{pin_name, track_word, line_words, site_words}
+use Rattle.act1_device.specs.Pins.{pin_name}
+use Rattle.act1_fuses.specs.Text.{track_word, line_words, site_words}
 use Rattle.act1_fuses.proofs.Written.{bytes_without, name_without, decimal_without}
 
 module _ (mark : ℕ) (low : mark ≤ 32) where

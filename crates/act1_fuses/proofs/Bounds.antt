@@ -12,9 +12,9 @@ use Rattle.act1_device.specs.declared.device.Line.{Line}
 use Rattle.act1_device.specs.declared.device.Line.TheVariants as line
 use Rattle.act1_device.specs.declared.device.Site.{Site}
 use Rattle.act1_device.specs.declared.device.Site.TheVariants.{Along, Cross}
+use Rattle.act1_device.specs.Laws.{DevicesAreSmall}
 use Rattle.act1_device.specs.Rules.{is_device, is_device_name, is_within, are_channels, are_in_order, are_inside, are_tracks, is_long, is_place, is_same_place, are_apart}
 use Rattle.act1_device.specs.Sites.{IsSite, HasLine, Reaches, Meets, tracks_of, long_at, pad_at}
-use Rattle.act1_device.proofs.Breaks.{few_breaks}
 use Rattle.act1_fuses.specs.declared.fuses.FuseFile.{FuseFile}
 use Rattle.act1_fuses.specs.Rules.{KeepsRules}
 use Rattle.act1_fuses.proofs.Fields.{TrackFits, LineFits, SiteFits, FitsFields}
@@ -248,20 +248,20 @@ line_low dev (line.Long column index) h =
     (omega (arith, columns, a), omega (arith, longs, b))
 line_low dev (line.Pad pad) h = let pads = few_pads dev in omega (arith, pads, h)
 
-site_low : (dev : Device) (site : Site) → IsSite dev site → SiteFits site
-site_low dev (Along c t i) h =
+site_low : DevicesAreSmall → (dev : Device) (site : Site) → IsSite dev site → SiteFits site
+site_low small dev (Along c t i) h =
     let rows = few_rows dev in
     let tracks = few_in dev c in
-    let breaks = few_breaks dev c t in
+    let breaks = (small dev).breaks c t in
     let a = h.0 in
     let b = h.1 in
     let d = h.2 in
     (omega (arith, rows, a), omega (arith, tracks, b), omega (arith, breaks, d))
-site_low dev (Cross c t l) h = (channel_low dev l c h.0.0 h.0.1, track_low dev c t l h.1, line_low dev l h.0.0)
+site_low small dev (Cross c t l) h = (channel_low dev l c h.0.0 h.0.1, track_low dev c t l h.1, line_low dev l h.0.0)
 
 -- the numbers of a file that keeps the rules are in their fields
-pub fits_of : (dev : Device) (f : FuseFile) → KeepsRules dev f → FitsFields f
-fits_of dev f keeps = record {
+pub fits_of : DevicesAreSmall → (dev : Device) (f : FuseFile) → KeepsRules dev f → FitsFields f
+fits_of small dev f keeps = record {
   pads = λ k d low. (let pads = few_pads dev in let has = keeps.pads k d low in omega (arith, pads, has));
-  sites = λ k d low. site_low dev (slice_index_or f.sites k d) (keeps.sites k d low);
+  sites = λ k d low. site_low small dev (slice_index_or f.sites k d) (keeps.sites k d low);
 }

@@ -1,5 +1,6 @@
 pub mod Blanks
 pub mod Bounds
+pub mod Completions
 pub mod Fields
 pub mod FileText
 pub mod Forms

@@ -15,7 +15,8 @@ use Rattle.act1_device.specs.Order.{track_number, line_numbers, site_numbers}
 use Rattle.act1_fuses.specs.declared.form.FuseLine.{FuseLine}
 use Rattle.act1_fuses.specs.declared.form.FuseLine.TheVariants as form
 use Rattle.act1_fuses.specs.Forms.{number, is_track, track_order, is_small, track_of, place_among, pin_number, pin_at, out_at, long_at, pad_at, crossing, along, along_fuse, pin_fuse, out_fuse, long_fuse, pad_fuse, is_fuse, is_init, form_of, form_of_one, form_of_two, form_of_three, form_of_five, form_of_six, form_of_seven}
-use Rattle.act1_fuses.specs.Text.{pin_names, pin_name, track_word, line_words, site_words}
+use Rattle.act1_device.specs.Pins.{pin_names, pin_name}
+use Rattle.act1_fuses.specs.Text.{track_word, line_words, site_words}
 
 -- the words of what a line says, where its numbers fit
 abbrev pub words_said : FuseLine → List (List ℕ)

@@ -6,7 +6,7 @@ use Rattle.std.proofs.lemmas.List.{append-nil, map-append}
 use Rattle.std.proofs.lemmas.Bool.Decides.{nat_tests}
 use Rattle.act1_base.specs.Names.{is_name}
 use Rattle.act1_base.proofs.TextLines.{IsWithout, joined, words_again}
-use Rattle.act1_base.proofs.TextLaws.{Runs}
+use Rattle.act1_base.specs.FirstFault.{Runs}
 use Rattle.act1_device.specs.declared.device.Device.{Device}
 use Rattle.act1_device.specs.declared.device.Site.{Site}
 use Rattle.act1_fuses.specs.declared.fault.FuseKind.{FuseKind}

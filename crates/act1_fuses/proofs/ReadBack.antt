@@ -94,7 +94,7 @@ module _ (dev : Device) (f : FuseFile) (keeps : KeepsRules dev f) (fits : FitsFi
       let d = append_without 10 (omega arith) (front ++ in_lines ++ out_lines ++ begins) fuses c sites in
       append_without 10 (omega arith) (front ++ in_lines ++ out_lines ++ begins ++ fuses) ((codes "end" ∷ []) ∷ []) d end
 
-  abbrev last : FuseState
+  abbrev pub last : FuseState
   last = (all_run dev f keeps fits).last
 
   abbrev end_at : ℕ → Result FuseState FuseKind
@@ -103,7 +103,8 @@ module _ (dev : Device) (f : FuseFile) (keeps : KeepsRules dev f) (fits : FitsFi
   ended : (place : ℕ) → place ≡ 8 → end_at place ≡ Ok last
   ended place e = ap end_at e
 
-  text_is_read : fuse_reading dev (fuse_text f) ≡ Ok last
+  -- the text is read to its end
+  pub text_is_read : fuse_reading dev (fuse_text f) ≡ Ok last
   text_is_read = written_is_read (fuse_rules dev) (file_lines f) last last no_feeds (all_run dev f keeps fits).runs (ended last.place (all_run dev f keeps fits).is.place)
 
   one_state : (s t : FuseState) (r : Result FuseState (TextFault FuseKind)) → r ≡ Ok s → r ≡ Ok t → s ≡ t

@@ -59,7 +59,7 @@ name_parts n last false some few h apart = cc
 within_of : (n : ℕ) → IsTrue (is_within 1 64 n) → (1 ≤ n) × (n ≤ 64)
 within_of n h = (grind (arith, nat_tests), grind (arith, nat_tests))
 
-fine_device : (name : List ℕ) → IsTrue (is_device_name name) → IsTrue (is_name name)
+pub fine_device : (name : List ℕ) → IsTrue (is_device_name name) → IsTrue (is_name name)
 fine_device name h =
     let p = both (is_within 1 64 (length name)) (list_all is_device_byte name) h in
     let size = within_of (length name) p.0 in

@@ -24,7 +24,8 @@ use Rattle.act1_fuses.specs.declared.form.FuseLine.{FuseLine}
 use Rattle.act1_fuses.specs.declared.form.FuseLine.TheVariants as form
 use Rattle.act1_fuses.proofs.Fields.{TrackFits, SiteFits}
 use Rattle.act1_fuses.specs.Forms.{number, is_track, track_order, is_small, track_of, pin_number, crossing, along, is_fuse, is_init, form_of, form_of_seven}
-use Rattle.act1_fuses.specs.Text.{pin_name, track_word, site_words}
+use Rattle.act1_device.specs.Pins.{pin_name}
+use Rattle.act1_fuses.specs.Text.{track_word, site_words}
 
 and_of : (a b : Bool) → IsTrue a → IsTrue b → IsTrue (a && b)
 and_of true b h k = k

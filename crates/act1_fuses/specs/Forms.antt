@@ -9,9 +9,10 @@ use Rattle.act1_device.specs.declared.device.Line.{Line}
 use Rattle.act1_device.specs.declared.device.Line.TheVariants as line
 use Rattle.act1_device.specs.declared.device.Site.{Site}
 use Rattle.act1_device.specs.declared.device.Site.TheVariants.{Along, Cross}
+use Rattle.act1_device.specs.Order.{line_numbers, site_numbers, track_number}
+use Rattle.act1_device.specs.Pins.{pin_names}
 use Rattle.act1_fuses.specs.declared.form.FuseLine.{FuseLine}
 use Rattle.act1_fuses.specs.declared.form.FuseLine.TheVariants as form
-use Rattle.act1_fuses.specs.Text.{pin_names}
 
 -- the number of a word, where all above 65,535 count as 65,536
 abbrev pub number : List ℕ → ℕ
@@ -23,7 +24,7 @@ is_track word = bytes_eq word (codes "gnd") || bytes_eq word (codes "vcc") || by
 
 -- the number of a track among those of a channel: signal tracks, then ground, power and clock
 abbrev pub track_order : List ℕ → ℕ
-track_order word = if bytes_eq word (codes "gnd") then 64 else if bytes_eq word (codes "vcc") then 65 else if bytes_eq word (codes "clk") then 66 else number word
+track_order word = if bytes_eq word (codes "gnd") then track_number track.Gnd else if bytes_eq word (codes "vcc") then track_number track.Vcc else if bytes_eq word (codes "clk") then track_number track.Clk else number word
 
 -- a number that a field of a site holds
 abbrev pub is_small : ℕ → Bool
@@ -75,23 +76,23 @@ along channel _ index = None
 
 -- an antifuse along a track: the numbers of the order of sites, and the site
 abbrev pub along_fuse : List ℕ → List ℕ → List ℕ → FuseLine
-along_fuse c t index = form.Fuse (number c ∷ track_order t ∷ 0 ∷ number index ∷ []) (along (number c) (track_of t) (number index))
+along_fuse c t index = form.Fuse (site_numbers (Along (number c) (track_order t) (number index))) (along (number c) (track_of t) (number index))
 
 -- an antifuse where a pin crosses a track
 abbrev pub pin_fuse : List ℕ → List ℕ → List ℕ → List ℕ → ℕ → FuseLine
-pin_fuse c t row column pin = form.Fuse (number c ∷ track_order t ∷ 1 ∷ number row ∷ number column ∷ pin ∷ []) (crossing (number c) (track_of t) (pin_at (number row) (number column) pin))
+pin_fuse c t row column pin = form.Fuse (number c ∷ track_order t ∷ line_numbers (line.Pin (number row) (number column) pin)) (crossing (number c) (track_of t) (pin_at (number row) (number column) pin))
 
 -- an antifuse where an output crosses a track
 abbrev pub out_fuse : List ℕ → List ℕ → List ℕ → List ℕ → FuseLine
-out_fuse c t row column = form.Fuse (number c ∷ track_order t ∷ 2 ∷ number row ∷ number column ∷ []) (crossing (number c) (track_of t) (out_at (number row) (number column)))
+out_fuse c t row column = form.Fuse (number c ∷ track_order t ∷ line_numbers (line.Out (number row) (number column))) (crossing (number c) (track_of t) (out_at (number row) (number column)))
 
 -- an antifuse where a long wire crosses a track
 abbrev pub long_fuse : List ℕ → List ℕ → List ℕ → List ℕ → FuseLine
-long_fuse c t column index = form.Fuse (number c ∷ track_order t ∷ 3 ∷ number column ∷ number index ∷ []) (crossing (number c) (track_of t) (long_at (number column) (number index)))
+long_fuse c t column index = form.Fuse (number c ∷ track_order t ∷ line_numbers (line.Long (number column) (number index))) (crossing (number c) (track_of t) (long_at (number column) (number index)))
 
 -- an antifuse where a pad crosses a track
 abbrev pub pad_fuse : List ℕ → List ℕ → List ℕ → FuseLine
-pad_fuse c t pad = form.Fuse (number c ∷ track_order t ∷ 4 ∷ number pad ∷ []) (crossing (number c) (track_of t) (pad_at (number pad)))
+pad_fuse c t pad = form.Fuse (number c ∷ track_order t ∷ line_numbers (line.Pad (number pad))) (crossing (number c) (track_of t) (pad_at (number pad)))
 
 -- a line of one word
 abbrev pub form_of_one : List ℕ → Option FuseLine

@@ -1,8 +1,8 @@
 pub mod Array
+pub mod FaultWords
 pub mod Forms
 pub mod Given
-pub mod OneCircuit
-pub mod OneFile
+pub mod Laws
 pub mod Reading
 pub mod Reads
 pub mod Rules

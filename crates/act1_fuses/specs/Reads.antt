@@ -13,6 +13,10 @@ use Rattle.act1_fuses.specs.Text.{fuse_text}
 abbrev pub IsTextOf : Device → List ℕ → FuseFile → Type 0
 IsTextOf dev bytes f = KeepsRules dev f × (bytes ≡ fuse_text f)
 
+-- the bytes are the text of some file that keeps the rules for the device
+abbrev pub IsFuseText : Device → List ℕ → Type 0
+IsFuseText dev bytes = (f : FuseFile) × IsTextOf dev bytes f
+
 -- this is the first faulty line, with the least kind of what is wrong with it
 abbrev pub IsFirstFault : Device → List ℕ → ℕ → FuseKind → Type 0
 IsFirstFault dev bytes line k = fuse_reading dev bytes ≡ Err (record { line = line; kind = k })

@@ -1,5 +1,5 @@
 -- The one text of an antifuse file. The format is this project's own.
-use Rattle.std.specs.Prelude.{ℕ, List, [], ◌∷◌, ◌++◌, map, Option, Some, None, codes, slice_index_or}
+use Rattle.std.specs.Prelude.{ℕ, List, [], ◌∷◌, ◌++◌, map, Option, Some, None, codes}
 use Rattle.std.specs.Fmt.{decimal}
 use Rattle.act1_base.specs.Words.{text_of_lines}
 use Rattle.act1_device.specs.declared.device.Track.{Track}
@@ -8,17 +8,10 @@ use Rattle.act1_device.specs.declared.device.Line.{Line}
 use Rattle.act1_device.specs.declared.device.Line.TheVariants as line
 use Rattle.act1_device.specs.declared.device.Site.{Site}
 use Rattle.act1_device.specs.declared.device.Site.TheVariants.{Along, Cross}
+use Rattle.act1_device.specs.Pins.{pin_name}
 use Rattle.act1_fuses.specs.declared.fuses.FuseFile.{FuseFile}
 use Rattle.act1_fuses.specs.declared.fuses.Port.{Port}
 use Rattle.act1_fuses.specs.declared.fuses.StartAt.{StartAt}
-
--- the names of the pins, in the order of their numbers
-abbrev pub pin_names : List (List ℕ)
-pin_names = codes "A0" ∷ codes "A1" ∷ codes "SA" ∷ codes "B0" ∷ codes "B1" ∷ codes "SB" ∷ codes "S0" ∷ codes "S1" ∷ []
-
--- the name of a pin; there are eight, and the device has no other
-abbrev pub pin_name : ℕ → List ℕ
-pin_name pin = slice_index_or pin_names pin []
 
 -- a signal track is written as its number, and the others by their names
 abbrev pub track_word : Track → List ℕ

@@ -1,14 +1,14 @@
 ghost use Rattle.std.specs.Prelude.{◌≡◌, ◌≤◌, length};
 ghost use Rattle.act1_base.specs.Texts.{Gives};
 ghost use Rattle.act1_fuses.specs.Reading.{fuse_rules};
-ghost use Rattle.act1_fuses.specs.Reads.{FuseReads, ReadsAgain};
+ghost use Rattle.act1_fuses.specs.Reads.{FuseReads, ReadsAgain, IsFuseText};
 
 use crate::fault::{FuseFault, FuseKind};
 use crate::fuses::FuseFile;
 use crate::lines::read_line;
 use crate::reader::FuseReader;
 use act1_base::{Format, Memory, Stop, TextFault, read_text};
-use act1_device::Device;
+use act1_device::{Device, devices_are_small};
 use std::alloc::Global;
 
 // The format of the antifuse files of a device.
@@ -24,6 +24,8 @@ impl<'a> Format for FuseFormat<'a> {
     type Kind = FuseKind;
 
     ghost rules = { λ format. fuse_rules format.device.now };
+
+    ghost is_text = { λ format. IsFuseText format.device.now };
 
     fn start(&self) -> Result<FuseReader, Memory> {
         FuseReader::new(self.alloc)
@@ -77,6 +79,7 @@ pub fn read_fuses(alloc: Global, device: &Device, bytes: &[u8]) -> Result<FuseFi
     ensures first { FuseReads device.now bytes.now result }
     ensures again { ReadsAgain device.now bytes.now result }
 {
+    devices_are_small();
     let format = FuseFormat { alloc, device };
     match read_text(alloc, &format, bytes) {
         Ok(reader) => Ok(reader.into_file()),

@@ -1,12 +1,12 @@
-ghost use Rattle.std.specs.Prelude.{◌≡◌, ◌++◌, ◌∷◌, [], map, IfOk, OnOk};
+ghost use Rattle.std.specs.Prelude.{◌≡◌, ◌++◌, ◌∷◌, [], codes, map, IfOk, OnOk};
 ghost use Rattle.std.specs.Fmt.{decimal};
 ghost use Rattle.std.specs.List.{flat_map};
 ghost use Rattle.act1_base.specs.Words.{text_line, text_of_lines};
-ghost use Rattle.act1_fuses.specs.Text.{fuse_text, clock_lines, port_words, start_words, site_words, line_words, track_word, pin_name};
+ghost use Rattle.act1_fuses.specs.Text.{fuse_text, clock_lines, port_words, start_words, site_words, line_words, track_word};
 
 use crate::fuses::{FuseFile, Port, StartAt};
-use act1_base::{Memory, Name, write_number};
-use act1_device::{Line, Site, Track};
+use act1_base::{Memory, Name, add_number, add_word, write_named};
+use act1_device::{Line, Site, Track, name_of_pin};
 use std::alloc::Global;
 
 /// The one text of an antifuse file, which is lines of words. One space parts the words of a line,
@@ -38,7 +38,7 @@ pub fn write_fuses(alloc: Global, file: &FuseFile) -> Result<Vec<u8>, Memory>
 {
     let mut text = Vec::new(alloc);
     text.extend_from_slice(b"act1 fuses 1\n")?;
-    write_name(&mut text, b"device", &file.device)?;
+    write_device(&mut text, &file.device)?;
     write_clock(&mut text, &file.clock)?;
     write_ports(&mut text, b"in", file.ins.as_slice())?;
     write_ports(&mut text, b"out", file.outs.as_slice())?;
@@ -48,32 +48,11 @@ pub fn write_fuses(alloc: Global, file: &FuseFile) -> Result<Vec<u8>, Memory>
     Ok(text)
 }
 
-// Adds a blank and a word. The blank goes with the word behind it, so that nothing has to know which
-// word is the last of its line.
-fn add_word(text: &mut Vec<u8>, word: &[u8]) -> Result<(), Memory>
-    ensures { OnOk result (text.new.items ≡ text.old.items ++ 32 ∷ word.now) }
+// Adds the device's line.
+fn write_device(text: &mut Vec<u8>, name: &Name) -> Result<(), Memory>
+    ensures { OnOk result (text.new.items ≡ text.old.items ++ text_line (codes "device" ∷ name.now ∷ [])) }
 {
-    text.push(b' ')?;
-    text.extend_from_slice(word)?;
-    Ok(())
-}
-
-// Adds a blank and a number.
-fn add_number(text: &mut Vec<u8>, n: u64) -> Result<(), Memory>
-    ensures { OnOk result (text.new.items ≡ text.old.items ++ 32 ∷ decimal n) }
-{
-    text.push(b' ')?;
-    write_number(text, n)
-}
-
-// Adds the line of a word and a name.
-fn write_name(text: &mut Vec<u8>, word: &[u8], name: &Name) -> Result<(), Memory>
-    ensures { OnOk result (text.new.items ≡ text.old.items ++ text_line (word.now ∷ name.now ∷ [])) }
-{
-    text.extend_from_slice(word)?;
-    add_word(text, name.as_bytes())?;
-    text.push(b'\n')?;
-    Ok(())
+    write_named(text, b"device", name.as_bytes())
 }
 
 // Adds the clock's line, if there is a clock.
@@ -81,7 +60,7 @@ fn write_clock(text: &mut Vec<u8>, clock: &Option<Name>) -> Result<(), Memory>
     ensures { OnOk result (text.new.items ≡ text.old.items ++ text_of_lines (clock_lines clock.now)) }
 {
     match clock {
-        Some(name) => write_name(text, b"clock", name),
+        Some(name) => write_named(text, b"clock", name.as_bytes()),
         None => Ok(()),
     }
 }
@@ -98,7 +77,7 @@ fn write_port(text: &mut Vec<u8>, word: &[u8], port: &Port) -> Result<(), Memory
 }
 
 // Adds the lines of the inputs or of the outputs.
-#[tactic(auto, using(crate::proofs::TextLines::text_more))]
+#[tactic(auto, using(act1_base::proofs::TextGrows::text_more))]
 fn write_ports(text: &mut Vec<u8>, word: &[u8], ports: &[Port]) -> Result<(), Memory>
     ensures { OnOk result (text.new.items ≡ text.old.items ++ text_of_lines (map (port_words word.now) ports.now)) }
 {
@@ -122,7 +101,7 @@ fn write_start(text: &mut Vec<u8>, start: &StartAt) -> Result<(), Memory>
 }
 
 // Adds the lines of the starts.
-#[tactic(auto, using(crate::proofs::TextLines::text_more))]
+#[tactic(auto, using(act1_base::proofs::TextGrows::text_more))]
 fn write_starts(text: &mut Vec<u8>, starts: &[StartAt]) -> Result<(), Memory>
     ensures { OnOk result (text.new.items ≡ text.old.items ++ text_of_lines (map start_words starts.now)) }
 {
@@ -141,24 +120,6 @@ fn add_track(text: &mut Vec<u8>, track: Track) -> Result<(), Memory>
         Track::Gnd => add_word(text, b"gnd"),
         Track::Vcc => add_word(text, b"vcc"),
         Track::Clk => add_word(text, b"clk"),
-    }
-}
-
-/// The name of a pin, by its number: A0, A1, SA, B0, B1, SB, S0, S1. It is empty above 7, where no
-/// device has a pin.
-pub fn name_of_pin(pin: u8) -> &'static [u8]
-    ensures { result.now ≡ pin_name pin }
-{
-    match pin {
-        0 => b"A0",
-        1 => b"A1",
-        2 => b"SA",
-        3 => b"B0",
-        4 => b"B1",
-        5 => b"SB",
-        6 => b"S0",
-        7 => b"S1",
-        _ => b"",
     }
 }
 
@@ -221,7 +182,7 @@ fn write_site(text: &mut Vec<u8>, site: Site) -> Result<(), Memory>
 }
 
 // Adds the lines of the antifuses at these sites.
-#[tactic(auto, using(crate::proofs::TextLines::text_more))]
+#[tactic(auto, using(act1_base::proofs::TextGrows::text_more))]
 fn write_sites(text: &mut Vec<u8>, sites: &[Site]) -> Result<(), Memory>
     ensures { OnOk result (text.new.items ≡ text.old.items ++ text_of_lines (map site_words sites.now)) }
 {
@@ -229,126 +190,4 @@ fn write_sites(text: &mut Vec<u8>, sites: &[Site]) -> Result<(), Memory>
         write_site(text, *site)?;
     }
     Ok(())
-}
-
-#[cfg(test)]
-mod tests {
-    use super::*;
-    use act1_base::Items;
-    use act1_circuit::Spot;
-    use std::test::Fail;
-
-    fn ports(alloc: Global, ports: &[(u16, &[u8])]) -> Result<Items<Port>, Memory> {
-        let mut items = Items::new(alloc);
-        for (pad, name) in ports {
-            items.push(Port {
-                pad: *pad,
-                name: Name::new(alloc, name)?,
-            })?;
-        }
-        Ok(items)
-    }
-
-    #[test]
-    fn writes_the_constants_of_the_tiny_device(rt: HostRuntime) -> Result<(), Fail> {
-        let alloc = rt.alloc();
-        let sites = [
-            Site::Cross {
-                channel: 0,
-                track: Track::Gnd,
-                line: Line::Pad { pad: 1 },
-            },
-            Site::Cross {
-                channel: 0,
-                track: Track::Vcc,
-                line: Line::Pad { pad: 0 },
-            },
-        ];
-        let file = FuseFile {
-            device: Name::new(alloc, b"tiny")?,
-            clock: None,
-            ins: Items::new(alloc),
-            outs: ports(alloc, &[(0, b"y"), (1, b"z")])?,
-            starts: Items::new(alloc),
-            sites: Items::from_slice(alloc, &sites)?,
-        };
-        let text = write_fuses(alloc, &file)?;
-        let wanted = b"act1 fuses 1\n\
-            device tiny\n\
-            out 0 y\n\
-            out 1 z\n\
-            fuse 0 gnd pad 1\n\
-            fuse 0 vcc pad 0\n\
-            end\n";
-        assert_eq!(rt; text.as_slice(), wanted.as_slice());
-        Ok(())
-    }
-
-    #[test]
-    fn writes_each_form_of_line(rt: HostRuntime) -> Result<(), Fail> {
-        let alloc = rt.alloc();
-        let mut starts = Items::new(alloc);
-        starts.push(StartAt {
-            spot: Spot { row: 1, column: 12 },
-            init: 2,
-            name: Name::new(alloc, b"held")?,
-        })?;
-        let sites = [
-            Site::Along {
-                channel: 0,
-                track: 1,
-                index: 2,
-            },
-            Site::Cross {
-                channel: 0,
-                track: Track::Signal(63),
-                line: Line::Pin {
-                    row: 31,
-                    column: 7,
-                    pin: 7,
-                },
-            },
-            Site::Cross {
-                channel: 1,
-                track: Track::Gnd,
-                line: Line::Out { row: 0, column: 63 },
-            },
-            Site::Cross {
-                channel: 2,
-                track: Track::Vcc,
-                line: Line::Long {
-                    column: 5,
-                    index: 31,
-                },
-            },
-            Site::Cross {
-                channel: 32,
-                track: Track::Clk,
-                line: Line::Pad { pad: 4095 },
-            },
-        ];
-        let file = FuseFile {
-            device: Name::new(alloc, b"broad")?,
-            clock: Some(Name::new(alloc, b"tick")?),
-            ins: ports(alloc, &[(3, b"a")])?,
-            outs: ports(alloc, &[(10, b"q[0]")])?,
-            starts,
-            sites: Items::from_slice(alloc, &sites)?,
-        };
-        let text = write_fuses(alloc, &file)?;
-        let wanted = b"act1 fuses 1\n\
-            device broad\n\
-            clock tick\n\
-            in 3 a\n\
-            out 10 q[0]\n\
-            start 1 12 2 held\n\
-            fuse 0 1 along 2\n\
-            fuse 0 63 pin 31 7 S1\n\
-            fuse 1 gnd out 0 63\n\
-            fuse 2 vcc long 5 31\n\
-            fuse 32 clk pad 4095\n\
-            end\n";
-        assert_eq!(rt; text.as_slice(), wanted.as_slice());
-        Ok(())
-    }
 }

@@ -4,8 +4,6 @@
 mod cover;
 mod module;
 mod table;
-#[cfg(test)]
-mod tests;
 mod value;
 
 pub use cover::{Cover, Mark, Row};

@@ -5,7 +5,7 @@ use Rattle.std.proofs.lemmas.List.Elements.{All-contains, All-get_or, All-from_r
 use Rattle.act1_logic.specs.declared.table.Table.{Table}
 use Rattle.act1_match.specs.Choice.{has_bit, IsChoice}
 use Rattle.act1_match.specs.Matches.{Matches}
-use Rattle.act1_match.specs.Search.{ArePins, pin_list}
+use Rattle.act1_match.specs.SearchSteps.{ArePins, pin_list}
 use Rattle.act1_match.specs.declared.choice.PinChoice.{PinChoice}
 use Rattle.act1_match.specs.declared.choice.PinChoice.TheVariants.{Zero}
 use Rattle.act1_match.specs.declared.pins.Pins.{Pins}

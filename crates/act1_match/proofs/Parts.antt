@@ -5,7 +5,7 @@ use Rattle.std.proofs.lemmas.Bool.{and_parts, and_from, not-true}
 use Rattle.std.proofs.lemmas.List.{take_all}
 use Rattle.std.proofs.lemmas.List.Elements.{All-contains}
 use Rattle.act1_match.specs.Choice.{has_bit}
-use Rattle.act1_match.specs.Search.{Agrees}
+use Rattle.act1_match.specs.SearchSteps.{Agrees}
 use Rattle.act1_match.proofs.Bits.{has_bit-and, has_bit-not}
 
 -- a loop over all of a list that met none with a property

@@ -4,7 +4,7 @@ use Rattle.std.specs.Int.{bit_not, w64}
 use Rattle.std.proofs.lemmas.Nat.{or_lt}
 use Rattle.act1_match.specs.Choice.{has_bit, value_at}
 use Rattle.act1_match.specs.Finds.{Finds}
-use Rattle.act1_match.specs.Search.{IsDataPin, IsMultiplexer, multiplexed, ArePins}
+use Rattle.act1_match.specs.SearchSteps.{IsDataPin, IsMultiplexer, multiplexed, ArePins}
 use Rattle.act1_match.specs.declared.choice.PinChoice.{PinChoice}
 use Rattle.act1_match.specs.declared.pins.Multiplexer.{Multiplexer}
 use Rattle.act1_match.specs.declared.pins.Pins.{Pins}

@@ -1,4 +1,4 @@
 pub mod Choice
 pub mod Finds
 pub mod Matches
-pub mod Search
+pub mod SearchSteps

@@ -1,6 +1,6 @@
 ghost use Rattle.std.specs.Prelude.{◌≡◌, ℕ, ◌<◌, ◌≤◌, ◌^◌, ◌↔◌, IsTrue, nat_lt};
 ghost use Rattle.act1_match.specs.Choice.{has_bit, value_at, IsChoice};
-ghost use Rattle.act1_match.specs.Search.{Agrees};
+ghost use Rattle.act1_match.specs.SearchSteps.{Agrees};
 
 use crate::choice::PinChoice;
 
@@ -22,7 +22,8 @@ pub fn inputs_of(vars: u8) -> u64
     u64::MAX >> (64 - (1u32 << vars))
 }
 
-// The inputs at which a pin with this choice is 1.
+/// The inputs of six variables at which a pin of this choice is 1, as bits of a number: variable j is bit j
+/// of an input.
 pub fn ones_of(choice: PinChoice) -> u64
     requires { IsChoice 6 choice }
     ensures { (i : ℕ) → i < 64 → has_bit result i ≡ value_at i choice }

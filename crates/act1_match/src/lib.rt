@@ -7,8 +7,7 @@ mod module;
 mod multiplexer;
 mod pins;
 mod selects;
-#[cfg(test)]
-mod tests;
 
 pub use choice::PinChoice;
+pub use inputs::ones_of;
 pub use module::match_module;

@@ -1,7 +1,7 @@
 ghost use Rattle.std.specs.Prelude.{◌≡◌, All, Contains};
 ghost use Rattle.act1_match.specs.Choice.{IsChoice};
 ghost use Rattle.act1_match.specs.Finds.{Finds};
-ghost use Rattle.act1_match.specs.Search.{IsDataPin, IsMultiplexer};
+ghost use Rattle.act1_match.specs.SearchSteps.{IsDataPin, IsMultiplexer};
 
 use crate::choice::PinChoice;
 use crate::inputs::{agrees, ones_of};

@@ -20,7 +20,7 @@ pub struct Pins {
 }
 
 impl Pins {
-    ghost use Rattle.act1_match.specs.Search.{pin_list};
+    ghost use Rattle.act1_match.specs.SearchSteps.{pin_list};
 
     // The pins in the order A0, A1, SA, B0, B1, SB, S0 and S1.
     pub fn in_order(self) -> [PinChoice; 8]

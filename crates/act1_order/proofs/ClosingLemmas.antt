@@ -3,9 +3,9 @@ use Rattle.std.proofs.Common.{ℕ, ◌≡◌, ◌≢◌, ◌<◌, ◌≤◌, ◌
 use Rattle.std.specs.Prelude.{slice_get, MatchOption}
 use Rattle.std.proofs.lemmas.Bool.{cases_eq, cases_lt, true≢false}
 use Rattle.act1_order.specs.Order.{Reads, AreReads, LeadsTo, OnRing, StandsBefore, IsOrder, IsFirstOnRing}
-use Rattle.act1_order.specs.Closing.{DependsOn, IsClosingOrder, LeadsFrom}
-use Rattle.act1_order.specs.Reach.{IsLeastFrom, least_with}
-use Rattle.act1_order.proofs.ListGets.{some_is, place_of}
+use Rattle.act1_order.specs.ClosingSteps.{DependsOn, IsClosingOrder, LeadsFrom}
+use Rattle.act1_order.specs.ReachSteps.{IsLeastFrom, least_with}
+use Rattle.act1_base.proofs.ListGets.{some_is, place_of}
 
 -- what leads to a vertex that depends on another depends on that one
 leads_on : (reads : List (List ℕ)) (v : ℕ) (path : List ℕ) (u w : ℕ) → LeadsTo reads v path u → DependsOn reads u w → DependsOn reads v w
@@ -101,7 +101,7 @@ leads_low reads inside v (u ∷ path) w r = leads_low reads inside u path w r.1
 
 -- where no vertex lies on a ring, each stands after those that it reads
 sorted : (reads : List (List ℕ)) (order : List ℕ) → IsClosingOrder reads order → ((q z : ℕ) → slice_get order q ≡ Some z → OnRing reads z → ⊥) → IsOrder reads order
-sorted reads order o none = record { all = o.all; inside = o.inside; once = o.once; after = λ p v w is r. by p v w is r (o.back p p v w v is r (omega arith) is) }
+sorted reads order o none = record { all = o.all; inside = o.inside; once = o.once; there = o.there; after = λ p v w is r. by p v w is r (o.back p p v w v is r (omega arith) is) }
   where
     earlier : (p v w : ℕ) → slice_get order p ≡ Some v → Reads reads v w → (s : StandsBefore order (p + 1) w) → (s.place ≡ p) ⊎ (s.place ≢ p) → StandsBefore order p w
     earlier p v w is r s (inl e) =

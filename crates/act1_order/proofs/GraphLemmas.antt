@@ -3,7 +3,7 @@ use Rattle.std.proofs.Common.{ℕ, ◌≡◌, ◌<◌, List, [], length, get_or,
 use Rattle.std.specs.Prelude.{slice_get, slice_index_or, All}
 use Rattle.std.proofs.lemmas.Option.{get_or_from_slice_get, slice_get-get_or}
 use Rattle.act1_order.specs.Order.{AreReads}
-use Rattle.act1_order.proofs.ListGets.{contains_at, get_read}
+use Rattle.act1_base.proofs.ListGets.{contains_at, get_read}
 
 -- the reads of a vertex, as they are read from the graph
 pub own_reads : (reads : List (List ℕ)) (v i : ℕ) (x y : List ℕ) → i ≡ v → v < length reads → x ≡ get_or reads i x → y ≡ x → slice_index_or reads v [] ≡ y

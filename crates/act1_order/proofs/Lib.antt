@@ -1,8 +1,6 @@
 pub mod ClosingLemmas
 pub mod GraphLemmas
-pub mod ListGets
 pub mod ReachLemmas
 pub mod ReadersLemmas
 pub mod SearchLemmas
 pub mod SortedLemmas
-pub mod Stands

@@ -6,12 +6,12 @@ use Rattle.std.proofs.lemmas.Option.{get_or_from_slice_get}
 use Rattle.std.proofs.lemmas.List.{length-set, length-append, take_more}
 use Rattle.std.proofs.lemmas.List.Sums.{sum_by-set}
 use Rattle.act1_order.specs.Order.{Reads, LeadsTo, OnRing}
-use Rattle.act1_order.specs.Closing.{DependsOn, IsClosingOrder, LeadsFrom}
-use Rattle.act1_order.specs.Readers.{AreReaders}
-use Rattle.act1_order.specs.Reach.{AreMarkedFrom, AreReached, HasMarked, IsMarked, unmarked, Marks}
+use Rattle.act1_order.specs.ClosingSteps.{DependsOn, IsClosingOrder, LeadsFrom}
+use Rattle.act1_order.specs.ReadersSteps.{AreReaders}
+use Rattle.act1_order.specs.ReachSteps.{AreMarkedFrom, AreReached, HasMarked, IsMarked, unmarked, Marks}
 use Rattle.act1_order.specs.declared.reach.Reached.{Reached}
 use Rattle.act1_order.proofs.ClosingLemmas.{leads_before, ring_by, ring_reads}
-use Rattle.act1_order.proofs.ListGets.{some_is, get_within, get_more, get_last, get_cases, contains_at, place_of, get_written, get_unwritten}
+use Rattle.act1_base.proofs.ListGets.{some_is, get_within, get_more, get_last, get_cases, contains_at, place_of, get_written, get_unwritten}
 
 pub contains_more : (xs : List ℕ) (x y : ℕ) → Contains xs x → Contains (xs ++ y ∷ []) x
 contains_more xs x y c = let p = place_of xs x c in contains_at (xs ++ y ∷ []) p.0 x (get_more xs y x p.0 p.1)

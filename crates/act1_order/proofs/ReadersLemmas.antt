@@ -4,7 +4,7 @@ use Rattle.std.specs.Prelude.{Contains, slice_index_or, slice_set}
 use Rattle.std.proofs.lemmas.Bool.{cases_eq}
 use Rattle.std.proofs.lemmas.List.{length-set, take_more}
 use Rattle.act1_order.specs.Order.{Reads, AreReads}
-use Rattle.act1_order.specs.Readers.{Adds, AreReaders, AreReadersBelow}
+use Rattle.act1_order.specs.ReadersSteps.{Adds, AreReaders, AreReadersBelow}
 use Rattle.act1_order.proofs.ReachLemmas.{contains_cases, contains_last, contains_more, none_in, one_in, this_in}
 
 -- one vertex has one more reader

@@ -7,12 +7,12 @@ use Rattle.std.proofs.lemmas.List.{length-set, length-append, length-replicate}
 use Rattle.std.proofs.lemmas.List.Folds.{sum_by-replicate}
 use Rattle.std.proofs.lemmas.List.Sums.{sum_by-set, sum_by-le}
 use Rattle.act1_order.specs.Order.{Reads, AreReads, StandsBefore}
-use Rattle.act1_order.specs.Closing.{DependsOn, IsClosingOrder}
-use Rattle.act1_order.specs.Search.{is_new, news, HasState, IsNextRead, IsSearched, IsSearch, IsLater, IsStep, IsVisit}
+use Rattle.act1_order.specs.ClosingSteps.{DependsOn, IsClosingOrder}
+use Rattle.act1_order.specs.SearchSteps.{is_new, news, HasState, IsNextRead, IsSearched, IsSearch, IsLater, IsStep, IsVisit}
 use Rattle.act1_order.specs.declared.search.Search.{Search}
 use Rattle.act1_order.specs.declared.search.State.{State}
 use Rattle.act1_order.specs.declared.search.State.TheVariants.{New, Open, Placed}
-use Rattle.act1_order.proofs.ListGets.{some_is, get_within, get_in, get_more, get_last, get_cases, contains_at, place_of, get_written, get_unwritten, get_read}
+use Rattle.act1_base.proofs.ListGets.{some_is, get_within, get_in, get_more, get_last, get_cases, contains_at, place_of, get_written, get_unwritten, get_read}
 
 two_states : (states : List State) (v : ℕ) (s t : State) → HasState states v s → HasState states v t → s ≡ t
 two_states states v s t h k = some_is s t (sym h ∙ k)

@@ -4,9 +4,9 @@ use Rattle.std.specs.Prelude.{slice_get, slice_set}
 use Rattle.std.proofs.lemmas.Bool.{cases_eq}
 use Rattle.std.proofs.lemmas.List.{length-set, length-replicate}
 use Rattle.act1_order.specs.Order.{Reads, StandsBefore, IsOrder}
-use Rattle.act1_order.specs.Closing.{IsClosingOrder}
-use Rattle.act1_order.specs.Reach.{IsMarked}
-use Rattle.act1_order.proofs.ListGets.{some_is, get_within, get_written, get_unwritten}
+use Rattle.act1_order.specs.ClosingSteps.{IsClosingOrder}
+use Rattle.act1_order.specs.ReachSteps.{IsMarked}
+use Rattle.act1_base.proofs.ListGets.{some_is, get_within, get_written, get_unwritten}
 
 -- the vertices before the place n are marked, and each of them stands after those that it reads
 pub record IsSortedTo (reads : List (List ℕ)) (order : List ℕ) (n : ℕ) (placed : List Bool) : Type 0 where
@@ -74,5 +74,6 @@ sorted_all reads order o n placed whole h = record {
   all = o.all;
   inside = o.inside;
   once = o.once;
+  there = o.there;
   after = λ p v w is r. let within = get_within order p v is in h.after p v w (omega arith) is r;
 }

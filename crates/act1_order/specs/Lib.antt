@@ -1,5 +1,5 @@
-pub mod Closing
+pub mod ClosingSteps
 pub mod Order
-pub mod Reach
-pub mod Readers
-pub mod Search
+pub mod ReachSteps
+pub mod ReadersSteps
+pub mod SearchSteps

@@ -32,6 +32,7 @@ pub record IsOrder (reads : List (List ℕ)) (order : List ℕ) : Type 0 where
   pub all : length order ≡ length reads
   pub inside : (p v : ℕ) → slice_get order p ≡ Some v → v < length reads
   pub once : (p q v : ℕ) → slice_get order p ≡ Some v → slice_get order q ≡ Some v → p ≡ q
+  pub there : (v : ℕ) → v < length reads → Contains order v
   pub after : (p v w : ℕ) → slice_get order p ≡ Some v → Reads reads v w → StandsBefore order p w
 
 -- v lies on a ring, and no vertex below it does

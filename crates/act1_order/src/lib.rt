@@ -9,8 +9,6 @@ mod reach;
 mod readers;
 mod search;
 mod sorted;
-#[cfg(test)]
-mod tests;
 
 pub use order::sources_first;
 pub use ordering::Ordering;

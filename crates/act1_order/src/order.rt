@@ -1,7 +1,7 @@
 ghost use Rattle.std.specs.Prelude.{◌≡◌, length, ◌≤◌, IfOk, MatchOption};
 ghost use Rattle.act1_order.specs.Order.{AreReads, IsFirstOnRing, IsOrder, Orders};
-ghost use Rattle.act1_order.specs.Closing.{IsClosingOrder};
-ghost use Rattle.act1_order.specs.Reach.{least_with};
+ghost use Rattle.act1_order.specs.ClosingSteps.{IsClosingOrder};
+ghost use Rattle.act1_order.specs.ReachSteps.{least_with};
 
 use crate::ordering::Ordering;
 use crate::reach::Reached;

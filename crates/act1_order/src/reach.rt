@@ -1,8 +1,8 @@
 ghost use Rattle.std.specs.Prelude.{ℕ, ◌≡◌, ◌<◌, ◌+◌, ◌↔◌, [], ◌∷◌, false, replicate, All, IsTrue, IfOk, OnOk, length, slice_get, slice_index_or, Some};
 ghost use Rattle.act1_order.specs.Order.{AreReads, OnRing};
-ghost use Rattle.act1_order.specs.Closing.{IsClosingOrder};
-ghost use Rattle.act1_order.specs.Readers.{AreReaders};
-ghost use Rattle.act1_order.specs.Reach.{AreMarkedFrom, HasMarked, Marks};
+ghost use Rattle.act1_order.specs.ClosingSteps.{IsClosingOrder};
+ghost use Rattle.act1_order.specs.ReadersSteps.{AreReaders};
+ghost use Rattle.act1_order.specs.ReachSteps.{AreMarkedFrom, HasMarked, Marks};
 
 use crate::graph::reads_of;
 use act1_base::{Items, Memory};

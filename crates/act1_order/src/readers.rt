@@ -1,6 +1,6 @@
 ghost use Rattle.std.specs.Prelude.{ℕ, ◌≡◌, ◌<◌, ◌≤◌, ◌++◌, [], ◌∷◌, All, IfOk, OnOk, length, slice_index_or, slice_set};
 ghost use Rattle.act1_order.specs.Order.{AreReads};
-ghost use Rattle.act1_order.specs.Readers.{Adds, AreReaders, HasNone};
+ghost use Rattle.act1_order.specs.ReadersSteps.{Adds, AreReaders, HasNone};
 
 use crate::graph::reads_of;
 use act1_base::{Items, Memory};

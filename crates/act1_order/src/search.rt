@@ -1,7 +1,7 @@
 ghost use Rattle.std.specs.Prelude.{ℕ, ◌≡◌, ◌<◌, ◌≤◌, ◌-◌, ◌++◌, ◌∷◌, [], ◌↔◌, IsTrue, take, replicate, All, IfOk, OnOk, Some, length, slice_get, slice_set};
 ghost use Rattle.act1_order.specs.Order.{AreReads};
-ghost use Rattle.act1_order.specs.Closing.{IsClosingOrder};
-ghost use Rattle.act1_order.specs.Search.{HasState, IsNextRead, IsSearch, IsStep, IsVisit};
+ghost use Rattle.act1_order.specs.ClosingSteps.{IsClosingOrder};
+ghost use Rattle.act1_order.specs.SearchSteps.{HasState, IsNextRead, IsSearch, IsStep, IsVisit};
 ghost use Rattle.act1_order.specs.declared.search.State.TheVariants as state;
 
 use crate::graph::reads_of;

@@ -1,7 +1,7 @@
 ghost use Rattle.std.specs.Prelude.{ℕ, ◌≡◌, ◌<◌, ◌↔◌, All, Contains, IfOk, IsTrue, Some, length, slice_get};
 ghost use Rattle.act1_order.specs.Order.{AreReads, IsOrder};
-ghost use Rattle.act1_order.specs.Closing.{IsClosingOrder};
-ghost use Rattle.act1_order.specs.Reach.{IsMarked};
+ghost use Rattle.act1_order.specs.ClosingSteps.{IsClosingOrder};
+ghost use Rattle.act1_order.specs.ReachSteps.{IsMarked};
 
 use crate::graph::reads_of;
 use act1_base::{Items, Memory};

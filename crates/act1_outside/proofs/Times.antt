@@ -4,7 +4,7 @@ use Rattle.std.specs.Str.{bytes_eq}
 use Rattle.std.proofs.lemmas.List.Sums.{sum_by_push}
 use Rattle.std.proofs.lemmas.Slice.Eq.{bytes_eq-Decides}
 use Rattle.act1_outside.specs.Faults.{Rose, OnlyAt}
-use Rattle.act1_outside.specs.MemoryFiles.{times}
+use Rattle.act1_outside.specs.Failures.{times}
 
 -- the count of a name in a list with one name more
 times_push : (names : List (List ℕ)) (m n : List ℕ) → times (names ++ m ∷ []) n ≡ times names n + cond (bytes_eq n m) 1 0

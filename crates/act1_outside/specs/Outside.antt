@@ -2,7 +2,7 @@
 use Rattle.std.specs.Prelude.{ℕ, ◌≡◌, ◌≢◌, ◌-◌, ◌^◌, ◌<◌, ◌≤◌, nat_eq, Bool, not, IsTrue, List, [], ◌∷◌, ◌++◌, length, take, filter, Option, Some, IfSome, is_some, Result, IfOk, OnOk, OnErr, IsErr, IsErrOf, Vec}
 use Rattle.std.specs.Option.{option_map}
 use Rattle.std.specs.declared.alloc.Global.{Global}
-use Rattle.act1_outside.specs.Faults.{Rose, OnlyAt}
+use Rattle.act1_outside.specs.Faults.{Rose, OnlyAt, count_after, lacks_memory, put_lacks_memory}
 use Rattle.act1_outside.specs.declared.files.FileFault.{FileFault}
 use Rattle.act1_outside.specs.declared.files.FileFault.TheVariants as file_fault
 use Rattle.act1_outside.specs.declared.sink.SinkFault.{SinkFault}
@@ -12,12 +12,13 @@ use Rattle.act1_outside.specs.declared.helpers.HelperFault.TheVariants as helper
 use Rattle.act1_outside.specs.declared.helpers.Entry.{Entry}
 use Rattle.act1_outside.specs.declared.helpers.Entry.TheVariants as entry
 
--- files: whether the object tells what its names hold, what they hold, and how often reads and writes of a name have failed
+-- files: whether the object tells what its names hold, what they hold, how often reads and writes of a name have failed, and how often a write found no memory
 pub record Shelf : Type 0 where
   pub tells : Bool
   pub held : List ℕ → Option (List ℕ)
   pub read_faults : List ℕ → ℕ
   pub write_faults : List ℕ → ℕ
+  pub unwritten : ℕ
 
 -- every name holds what it held, where that is told
 abbrev pub SameHeld : Shelf → Shelf → Type 0
@@ -42,8 +43,9 @@ pub record Reads (name : List ℕ) (most : ℕ) (before : Shelf) (result : Resul
   pub held : SameHeld before after
   pub reads : OnlyAt name before.read_faults after.read_faults
   pub writes : (n : List ℕ) → after.write_faults n ≡ before.write_faults n
+  pub memory : after.unwritten ≡ before.unwritten
 
--- what a write may answer and leave: these bytes under the name, or at an error anything
+-- what a write may answer and leave: these bytes under the name, or at an error anything; and it is counted where it found no memory
 pub record Writes (name bytes : List ℕ) (before : Shelf) (result : Result (Unit {0}) FileFault) (after : Shelf) : Type 0 where
   pub holds : IsTrue before.tells → OnOk result (after.held name ≡ Some bytes)
   pub never_long : IsErrOf result file_fault.TooLong → ⊥
@@ -52,23 +54,26 @@ pub record Writes (name bytes : List ℕ) (before : Shelf) (result : Result (Uni
   pub others : OthersHeld name before after
   pub reads : (n : List ℕ) → after.read_faults n ≡ before.read_faults n
   pub writes : OnlyAt name before.write_faults after.write_faults
+  pub memory : after.unwritten ≡ count_after (lacks_memory result) before.unwritten
 
--- a place to print: the bytes so far, where the object tells them, and how often a put has failed
+-- a place to print: the bytes so far, where the object tells them, how often a put has failed, and how often one found no memory
 pub record Paper : Type 0 where
   pub printed : Option (List ℕ)
   pub faults : ℕ
+  pub unprinted : ℕ
 
 -- the first few of the bytes were added
 abbrev pub AddsFront : List ℕ → List ℕ → List ℕ → Type 0
 AddsFront bytes before now = (n : ℕ) × (now ≡ before ++ take n bytes)
 
--- what a put may answer and leave: all its bytes, or at an error the first few of them
+-- what a put may answer and leave: all its bytes, or at an error the first few of them; and it is counted where it found no memory
 pub record Puts (bytes : List ℕ) (before : Paper) (result : Result (Unit {0}) SinkFault) (after : Paper) : Type 0 where
   pub ok : OnOk result (IfSome before.printed (λ text. after.printed ≡ Some (text ++ bytes)))
   pub err : OnErr result (IfSome before.printed (λ text. IfSome after.printed (AddsFront bytes text)))
   pub tells : is_some after.printed ≡ is_some before.printed
   pub failed : IsErrOf result sink_fault.Failed → Rose before.faults after.faults
   pub later : before.faults ≤ after.faults
+  pub memory : after.unprinted ≡ count_after (put_lacks_memory result) before.unprinted
 
 -- helpers: the open tickets, the next ticket, how often a start or a finish has failed, and the story, where the object tells it
 pub record Bench : Type 0 where

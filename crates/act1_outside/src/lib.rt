@@ -3,6 +3,7 @@
 #![tactic(auto)]
 
 mod calls;
+mod failures;
 mod files;
 mod helpers;
 mod memory_files;
@@ -10,6 +11,7 @@ mod memory_sink;
 mod no_helpers;
 mod sink;
 
+pub use failures::Failures;
 pub use files::{FileFault, Files};
 pub use helpers::{Entry, HelperFault, Helpers};
 pub use memory_files::MemoryFiles;

@@ -1,9 +1,10 @@
-ghost use Rattle.std.specs.Prelude.{◌≡◌, ◌≢◌, ◌∷◌, ◌++◌, [], ℕ, List, None, Some, OnOk, OnErr};
+ghost use Rattle.std.specs.Prelude.{◌≡◌, ◌≢◌, [], ℕ, List, None, Some, OnOk, OnErr};
 ghost use Rattle.act1_outside.specs.MemoryFiles.{content_of};
 
 use crate::calls::Calls;
+use crate::failures::Failures;
 use crate::files::{FileFault, Files};
-use act1_base::{Items, Memory, Name};
+use act1_base::Memory;
 use std::alloc::Global;
 use std::collections::BTreeMap;
 
@@ -14,17 +15,9 @@ pub struct MemoryFiles {
     alloc: Global,
     files: BTreeMap<String, Vec<u8>>,
     calls: Calls,
-    failed_reads: Items<Name>,
-    failed_writes: Items<Name>,
-}
-
-// Adds the name to those of the failed calls. It comes before each answer `Failed`, since the
-// entries of a name are the count of its faults.
-fn note(alloc: Global, names: &mut Items<Name>, name: &str) -> Result<(), Memory>
-    ensures ok { OnOk result (names.new ≡ names.old ++ name.now ∷ []) }
-    ensures err { OnErr result (names.new ≡ names.old) }
-{
-    names.push(Name::new(alloc, name.as_bytes())?)
+    failed_reads: Failures,
+    failed_writes: Failures,
+    unwritten: u64,
 }
 
 // Puts the bytes in the place of the whole content of a name.
@@ -51,20 +44,22 @@ impl MemoryFiles {
     ghost use Rattle.act1_outside.specs.Calls.{with_failing};
     ghost use Rattle.act1_outside.specs.MemoryFiles.{shelf_of, calls_of};
 
-    /// No files: no name is there, no call was made, none is to fail, and no fault is counted. It
+    /// No files: no name is there, no call was made, none is to fail, and nothing is counted. It
     /// takes no memory.
     pub fn new(alloc: Global) -> MemoryFiles
         ensures held { (name : List ℕ) → (shelf_of result).held name ≡ None }
         ensures reads { (name : List ℕ) → (shelf_of result).read_faults name ≡ 0 }
         ensures writes { (name : List ℕ) → (shelf_of result).write_faults name ≡ 0 }
+        ensures memory { (shelf_of result).unwritten ≡ 0 }
         ensures calls { calls_of result ≡ record { made = 0; failing = [] } }
     {
         MemoryFiles {
             alloc,
             files: BTreeMap::new(alloc),
             calls: Calls::new(alloc),
-            failed_reads: Items::new(alloc),
-            failed_writes: Items::new(alloc),
+            failed_reads: Failures::new(alloc),
+            failed_writes: Failures::new(alloc),
+            unwritten: 0,
         }
     }
 
@@ -113,7 +108,6 @@ impl Files for MemoryFiles {
 
     /// The content of a name. It fails exactly where the call is listed or the name isn't there,
     /// but for want of memory.
-    #[tactic(auto, using(crate::proofs::Times::noted))]
     fn read(&mut self, alloc: Global, name: &str, most: u64) -> Result<Vec<u8>, FileFault>
         ensures reads { Reads name.now most (shelf_of self.old) result (shelf_of self.new) }
         ensures listed { IsTrue (next_fails (calls_of self.old)) → Fails result }
@@ -132,7 +126,7 @@ impl Files for MemoryFiles {
                 Ok(bytes.as_slice().to_vec(alloc)?)
             }
             _ => {
-                note(self.alloc, &mut self.failed_reads, name)?;
+                self.failed_reads.note(name)?;
                 Err(FileFault::Failed)
             }
         }
@@ -140,7 +134,6 @@ impl Files for MemoryFiles {
 
     /// Writes a name. It fails exactly where the call is listed, but for want of memory, and then
     /// every name holds what it held.
-    #[tactic(auto, using(crate::proofs::Times::noted))]
     fn write(&mut self, name: &str, bytes: &[u8]) -> Result<(), FileFault>
         ensures writes { Writes name.now bytes.now (shelf_of self.old) result (shelf_of self.new) }
         ensures listed { IsTrue (next_fails (calls_of self.old)) → Fails result }
@@ -150,61 +143,22 @@ impl Files for MemoryFiles {
             (shelf_of self.old).write_faults name.now + file_faults result }
         ensures calls { calls_of self.new ≡ one_more (calls_of self.old) }
     {
-        if self.calls.count() {
-            note(self.alloc, &mut self.failed_writes, name)?;
-            return Err(FileFault::Failed);
+        let listed = self.calls.count();
+        if listed {
+            return match self.failed_writes.note(name) {
+                Ok(()) => Err(FileFault::Failed),
+                Err(Memory) => {
+                    self.unwritten = self.unwritten.saturating_add(1);
+                    Err(FileFault::Memory)
+                }
+            };
         }
-        Ok(store(self.alloc, &mut self.files, name, bytes)?)
-    }
-}
-
-#[cfg(test)]
-mod tests {
-    use super::*;
-    use std::test::Fail;
-
-    #[test]
-    fn holds_what_is_set_and_written(rt: HostRuntime) -> Result<(), Fail> {
-        let mut files = MemoryFiles::new(rt.alloc());
-        files.set("a", b"one")?;
-        files.write("b", b"three")?;
-        files.write("a", b"")?;
-        assert_eq!(rt; files.held("a"), Some(b"".as_slice()));
-        assert_eq!(rt; files.held("b"), Some(b"three".as_slice()));
-        assert_eq!(rt; files.held("c"), None);
-        assert_eq!(rt;
-            files.read(rt.alloc(), "b", 5)?.as_slice(),
-            b"three".as_slice()
-        );
-        assert_eq!(rt;
-            files.read(rt.alloc(), "b", 4).err(),
-            Some(FileFault::TooLong)
-        );
-        assert_eq!(rt;
-            files.read(rt.alloc(), "c", 4).err(),
-            Some(FileFault::Failed)
-        );
-        Ok(())
-    }
-
-    #[test]
-    fn listed_calls_fail(rt: HostRuntime) -> Result<(), Fail> {
-        let mut files = MemoryFiles::new(rt.alloc());
-        files.fail(3)?;
-        files.fail(2)?;
-        files.set("a", b"one")?;
-        files.read(rt.alloc(), "a", 3)?;
-        assert_eq!(rt;
-            files.read(rt.alloc(), "a", 3).err(),
-            Some(FileFault::Failed)
-        );
-        assert_eq!(rt; files.write("a", b"two"), Err(FileFault::Failed));
-        assert_eq!(rt;
-            files.read(rt.alloc(), "a", 3)?.as_slice(),
-            b"one".as_slice()
-        );
-        files.write("a", b"two")?;
-        assert_eq!(rt; files.held("a"), Some(b"two".as_slice()));
-        Ok(())
+        match store(self.alloc, &mut self.files, name, bytes) {
+            Ok(()) => Ok(()),
+            Err(Memory) => {
+                self.unwritten = self.unwritten.saturating_add(1);
+                Err(FileFault::Memory)
+            }
+        }
     }
 }

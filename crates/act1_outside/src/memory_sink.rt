@@ -12,6 +12,7 @@ pub struct MemorySink {
     bytes: Vec<u8>,
     calls: Calls,
     faults: u64,
+    unprinted: u64,
 }
 
 impl MemorySink {
@@ -22,13 +23,14 @@ impl MemorySink {
     /// Nothing was printed, no call was made, none is to fail, and no fault is counted. It takes no
     /// memory.
     pub fn new(alloc: Global) -> MemorySink
-        ensures paper { paper_of result ≡ record { printed = Some []; faults = 0 } }
+        ensures paper { paper_of result ≡ record { printed = Some []; faults = 0; unprinted = 0 } }
         ensures calls { calls_of result ≡ record { made = 0; failing = [] } }
     {
         MemorySink {
             bytes: Vec::new(alloc),
             calls: Calls::new(alloc),
             faults: 0,
+            unprinted: 0,
         }
     }
 
@@ -53,7 +55,7 @@ impl MemorySink {
 impl Sink for MemorySink {
     ghost use Rattle.std.specs.Prelude.{◌↔◌, IsTrue, IsErrOf};
     ghost use Rattle.act1_outside.specs.Outside.{Puts};
-    ghost use Rattle.act1_outside.specs.Faults.{faults_after};
+    ghost use Rattle.act1_outside.specs.Faults.{count_after};
     ghost use Rattle.act1_outside.specs.Calls.{one_more, next_fails};
     ghost use Rattle.act1_outside.specs.MemorySink.{paper_of, calls_of};
 
@@ -66,31 +68,17 @@ impl Sink for MemorySink {
         ensures listed { IsErrOf result SinkFault.Failed ↔ IsTrue (next_fails (calls_of self.old)) }
         ensures err { OnErr result ((paper_of self.new).printed ≡ (paper_of self.old).printed) }
         ensures faults { (paper_of self.new).faults ≡
-            faults_after (next_fails (calls_of self.old)) (paper_of self.old).faults }
+            count_after (next_fails (calls_of self.old)) (paper_of self.old).faults }
         ensures calls { calls_of self.new ≡ one_more (calls_of self.old) }
     {
         if self.calls.count() {
             self.faults = self.faults.saturating_add(1);
             return Err(SinkFault::Failed);
         }
-        self.bytes.extend_from_slice(bytes)?;
-        Ok(())
-    }
-}
-
-#[cfg(test)]
-mod tests {
-    use super::*;
-    use std::test::Fail;
-
-    #[test]
-    fn prints_all_but_the_listed_calls(rt: HostRuntime) -> Result<(), Fail> {
-        let mut sink = MemorySink::new(rt.alloc());
-        sink.fail(2)?;
-        sink.put(b"one ")?;
-        assert_eq!(rt; sink.put(b"two "), Err(SinkFault::Failed));
-        sink.put(b"three")?;
-        assert_eq!(rt; sink.bytes(), b"one three".as_slice());
+        if self.bytes.extend_from_slice(bytes).is_err() {
+            self.unprinted = self.unprinted.saturating_add(1);
+            return Err(SinkFault::Memory);
+        }
         Ok(())
     }
 }

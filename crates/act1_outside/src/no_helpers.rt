@@ -59,18 +59,3 @@ impl Helpers for NoHelpers {
 
     ghost next_above = { Prim.search rules };
 }
-
-#[cfg(test)]
-mod tests {
-    use super::*;
-
-    #[test]
-    fn starts_none(rt: HostRuntime) {
-        let mut helpers = NoHelpers::new();
-        assert_eq!(rt; helpers.start("search", b"job"), Err(HelperFault::Failed));
-        assert_eq!(rt;
-            helpers.finish(rt.alloc(), 0).err(),
-            Some(HelperFault::Failed)
-        );
-    }
-}

@@ -1,5 +1,5 @@
--- An array, a text of vectors and a fill have one answer.
-use Rattle.std.proofs.Common.{ℕ, ◌≡◌, ◌≢◌, Bool, List, length, Some, Ok, Err, refl, sym, ap, subst, ◌∙◌}
+-- An array, a text of vectors and a fill have at most one answer, since the array has.
+use Rattle.std.proofs.Common.{ℕ, ◌≡◌, ◌≢◌, Bool, List, length, Some, Result, Ok, Err, refl, sym, ap, subst, ◌∙◌}
 use Rattle.std.specs.Prelude.{slice_get}
 use Rattle.act1_base.proofs.ListGets.{some_is}
 use Rattle.act1_device.specs.declared.device.Device.{Device}
@@ -10,8 +10,7 @@ use Rattle.act1_fuses.specs.Rules.{KeepsRules}
 use Rattle.act1_array.specs.declared.fault.ArrayFault.{ArrayFault}
 use Rattle.act1_array.specs.declared.fault.ArrayFault.TheVariants as array
 use Rattle.act1_array.specs.Gives.{Gives}
-use Rattle.act1_array.proofs.OneAnswers.{one_placed, sound_or_refused}
-use Rattle.act1_array.proofs.OneAnswers as arrays
+use Rattle.act1_array.specs.Laws as arrays
 use Rattle.act1_sim.specs.declared.fault.SimFault.{SimFault}
 use Rattle.act1_sim.specs.declared.fault.SimFault.TheVariants.{Array, Vector, Unsettled, Memory}
 use Rattle.act1_sim.specs.Cycles.{outputs, IsFirstUnrest, BeginsWith}
@@ -28,12 +27,37 @@ vector_refusal line = Vector line
 abbrev unsettled_refusal : ℕ → Spot → SimFault
 unsettled_refusal cycle spot = Unsettled cycle spot
 
-module _ (dev : Device) (f : FuseFile) (bytes : List ℕ) (fill : Bool) (rules : KeepsRules dev f) where
+abbrev circuit : Placed → Result Placed ArrayFault
+circuit p = Ok p
+
+abbrev refused : ArrayFault → Result Placed ArrayFault
+refused fault = Err fault
+
+-- a circuit is no refusal, and equal answers have equal parts
+not_short : (p : Placed) → circuit p ≢ refused array.Memory
+not_short p e = cc
+
+same_refusal : (a b : ArrayFault) → refused a ≡ refused b → a ≡ b
+same_refusal a b e = cc
+
+is_cause : (fault : ArrayFault) → fault ≢ array.Memory → refused fault ≢ refused array.Memory
+is_cause fault cause e = cause (same_refusal fault array.Memory e)
+
+same_placed : (p q : Placed) → circuit p ≡ circuit q → p ≡ q
+same_placed p q e = cc
+
+circuit_or_refused : (p : Placed) (fault : ArrayFault) → circuit p ≢ refused fault
+circuit_or_refused p fault e = cc
+
+module _ (one : arrays.OneAnswer) (dev : Device) (f : FuseFile) (bytes : List ℕ) (fill : Bool) (rules : KeepsRules dev f) where
+  one_placed : (p q : Placed) → Gives dev f (Ok p) → Gives dev f (Ok q) → p ≡ q
+  one_placed p q a b = same_placed p q (one dev f rules (Ok p) (Ok q) (not_short p) (not_short q) a b)
+
   -- where the array has a circuit, all that a simulation begins with is given
   module _ (p : Placed) (xs : List (List Bool)) (bits : List Bool) (set_up : IsSetUp dev f bytes fill p xs bits) where
     same_set_up : (q : Placed) (ys : List (List Bool)) (others : List Bool) → IsSetUp dev f bytes fill q ys others → (Holds : Placed → List (List Bool) → List Bool → Type 0) → Holds q ys others → Holds p xs bits
     same_set_up q ys others other Holds h =
-        let same = one_placed dev f rules q p other.array set_up.array in
+        let same = one_placed q p other.array set_up.array in
         let vectors = subst (λ (r : Placed). AreVectorsOf (length r.circuit.inputs) bytes ys) same other.vectors in
         let begins = subst (λ (r : Placed). BeginsWith r.circuit fill others) same other.begins in
         subst (λ (b : List Bool). Holds p xs b) (one_start p.circuit.starts (length p.circuit.modules) fill others bits begins set_up.begins)
@@ -42,7 +66,7 @@ module _ (dev : Device) (f : FuseFile) (bytes : List ℕ) (fill : Bool) (rules :
 
   -- the line of a refusal, by the width that the circuit has
   line_of : (p : Placed) (line : ℕ) → Gives dev f (Ok p) → RefusesVector dev f bytes line → IsFirstNoVector (length p.circuit.inputs) bytes line
-  line_of p line given h = subst (λ (q : Placed). IsFirstNoVector (length q.circuit.inputs) bytes line) (one_placed dev f rules h.placed p h.array given) h.first
+  line_of p line given h = subst (λ (q : Placed). IsFirstNoVector (length q.circuit.inputs) bytes line) (one_placed h.placed p h.array given) h.first
 
   -- the cycle and the spot of a refusal, by the circuit, the vectors and the bits that are given
   stopped_at : (p : Placed) (xs : List (List Bool)) (bits : List Bool) → IsSetUp dev f bytes fill p xs bits → (cycle m : ℕ) (spot : Spot) (q : Placed) → DoesNotSettle dev f bytes fill cycle m q
@@ -57,7 +81,7 @@ module _ (dev : Device) (f : FuseFile) (bytes : List ℕ) (fill : Bool) (rules :
 
   -- an array with a circuit, and no refusal of the array
   no_fault : (fault : ArrayFault) (p : Placed) → (fault ≢ array.Memory) × Gives dev f (Err fault) → Gives dev f (Ok p) → ⊥
-  no_fault fault p h given = sound_or_refused dev f fault h.0 given.0 h.1
+  no_fault fault p h given = circuit_or_refused p fault (one dev f rules (Ok p) (Err fault) (not_short p) (is_cause fault h.0) given h.1)
 
   -- what is simulated is not refused
   pub never_both : (text : List ℕ) (e : SimFault) → e ≢ Memory → Simulates dev f bytes fill text → RefusesToSimulate dev f bytes fill e → ⊥
@@ -78,7 +102,7 @@ module _ (dev : Device) (f : FuseFile) (bytes : List ℕ) (fill : Bool) (rules :
 
   -- two refusals are one
   pub one_refusal : (e other : SimFault) → e ≢ Memory → other ≢ Memory → RefusesToSimulate dev f bytes fill e → RefusesToSimulate dev f bytes fill other → e ≡ other
-  one_refusal (Array fault) (Array other) cause next a b = ap array_refusal (arrays.one_refusal dev f fault other a.0 b.0 a.1 b.1)
+  one_refusal (Array fault) (Array other) cause next a b = ap array_refusal (same_refusal fault other (one dev f rules (Err fault) (Err other) (is_cause fault a.0) (is_cause other b.0) a.1 b.1))
   one_refusal (Array fault) (Vector line) cause next a b = absurd (no_fault fault b.placed a b.array)
   one_refusal (Array fault) (Unsettled cycle spot) cause next a (q, n, h, at) = absurd (no_fault fault q a h.set_up.array)
   one_refusal (Vector line) (Array fault) cause next a b = absurd (no_fault fault a.placed b a.array)

@@ -8,7 +8,8 @@ use Rattle.act1_sim.specs.declared.fault.SimFault.{SimFault}
 use Rattle.act1_sim.specs.declared.fault.SimFault.TheVariants.{Array, Vector, Unsettled, Memory}
 use Rattle.act1_sim.specs.Cycles.{outputs, Rests, BeginsWith}
 use Rattle.act1_sim.specs.Vectors.{AreVectorsOf, output_text}
-use Rattle.act1_sim.specs.Simulation.{IsSetUp, Simulates, RefusesToSimulate, ArrayStops, VectorStops, UnsettledBy}
+use Rattle.act1_sim.specs.Simulation.{IsSetUp, Simulates, RefusesToSimulate}
+use Rattle.act1_sim.specs.SimulationSteps.{ArrayStops, VectorStops, UnsettledBy}
 
 -- what refuses the array refuses the simulation
 pub array_refused : (dev : Device) (f : FuseFile) (bytes : List ℕ) (fill : Bool) (e : SimFault) → ArrayStops dev f e → RefusesToSimulate dev f bytes fill e

@@ -1,7 +1,5 @@
 -- The cycles of a simulation, in which modules fire in site order.
 use Rattle.std.specs.Prelude.{ℕ, zero, suc, ◌≡◌, ◌⊎◌, ◌≤◌, ◌<◌, ◌==◌, Bool, true, false, List, [], ◌∷◌, length, map, Some, Contains, slice_get}
-use Rattle.act1_base.specs.declared.texts.Stop.{Stop}
-use Rattle.act1_base.specs.declared.texts.Stop.TheVariants.{Fault, Memory}
 use Rattle.act1_circuit.specs.declared.circuit.Circuit.{Circuit}
 use Rattle.act1_circuit.specs.declared.circuit.Start.{Start}
 use Rattle.act1_circuit.specs.Firing.{Waves, site_wave, low_bits, high_bits, run, IsAtRest, IsLeastUnrest, RestsAlong}
@@ -47,8 +45,3 @@ abbrev pub IsFirstUnrest : Circuit → List Bool → List (List Bool) → ℕ �
 IsFirstUnrest c bits [] cycle m = ⊥
 IsFirstUnrest c bits (x ∷ xs) zero m = UnrestsIn c bits x m
 IsFirstUnrest c bits (x ∷ xs) (suc cycle) m = RestsIn c bits x × IsFirstUnrest c (high_bits c bits x (in_site_order c)) xs cycle m
-
--- what stopped a cycle: a module of this kind, or want of memory, which is free
-abbrev pub OnUnrest : (ℕ → Type 0) → Stop ℕ → Type 0
-OnUnrest Is (Fault m) = Is m
-OnUnrest Is Memory = Unit {0}

@@ -1,4 +1,6 @@
 pub mod Cycles
-pub mod OneAnswer
+pub mod FaultWords
+pub mod Laws
 pub mod Simulation
+pub mod SimulationSteps
 pub mod Vectors

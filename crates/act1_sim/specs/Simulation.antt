@@ -44,21 +44,3 @@ RefusesToSimulate dev f bytes fill (Array fault) = (fault ≢ array.Memory) × G
 RefusesToSimulate dev f bytes fill (Vector line) = RefusesVector dev f bytes line
 RefusesToSimulate dev f bytes fill (Unsettled cycle spot) = (p : Placed) × (m : ℕ) × DoesNotSettle dev f bytes fill cycle m p × (slice_get p.spots m ≡ Some spot)
 RefusesToSimulate dev f bytes fill Memory = Unit {0}
-
--- the array has no circuit, or memory was short
-abbrev pub ArrayStops : Device → FuseFile → SimFault → Type 0
-ArrayStops dev f (Array fault) = (fault ≢ array.Memory) × Gives dev f (Err fault)
-ArrayStops dev f Memory = Unit {0}
-ArrayStops dev f e = ⊥
-
--- the cycles of these vectors from these bits stop at this one, or memory was short
-abbrev pub UnsettledBy : Placed → List Bool → List (List Bool) → SimFault → Type 0
-UnsettledBy p bits xs (Unsettled cycle spot) = (m : ℕ) × IsFirstUnrest p.circuit bits xs cycle m × (slice_get p.spots m ≡ Some spot)
-UnsettledBy p bits xs Memory = Unit {0}
-UnsettledBy p bits xs e = ⊥
-
--- a line of the text is no vector, or memory was short
-abbrev pub VectorStops : ℕ → List ℕ → SimFault → Type 0
-VectorStops width bytes (Vector line) = IsFirstNoVector width bytes line
-VectorStops width bytes Memory = Unit {0}
-VectorStops width bytes e = ⊥

@@ -1,7 +1,8 @@
 ghost use Rattle.std.specs.Prelude.{◌≡◌, ◌++◌, ◌<◌, ◌^◌, length, map, false, OnOk, IfErr};
 ghost use Rattle.act1_circuit.specs.declared.circuit.Output.{Output};
 ghost use Rattle.act1_circuit.specs.Firing.{source_value, shown, low_bits, high_bits, fire_all, site_wave, IsAtRest, IsLeastUnrest};
-ghost use Rattle.act1_sim.specs.Cycles.{in_site_order, RestsIn, UnrestsIn, OnUnrest};
+ghost use Rattle.act1_sim.specs.Cycles.{in_site_order, RestsIn, UnrestsIn};
+ghost use Rattle.act1_sim.specs.SimulationSteps.{OnUnrest};
 ghost use Rattle.act1_sim.specs.Vectors.{bits_of, digit, output_line};
 
 use crate::vectors::bits_of;

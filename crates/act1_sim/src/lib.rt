@@ -5,12 +5,12 @@
 mod begin;
 mod cycle;
 mod fault;
+mod fault_line;
 mod laws;
 mod simulation;
-#[cfg(test)]
-mod tests;
 mod vectors;
 
 pub use fault::SimFault;
+pub use fault_line::write_sim_fault;
 pub use laws::one_answer;
 pub use simulation::simulate;

@@ -4,7 +4,8 @@ ghost use Rattle.act1_fuses.specs.Rules.{KeepsRules};
 ghost use Rattle.act1_array.specs.Gives.{Gives};
 ghost use Rattle.act1_sim.specs.Cycles.{outputs, Rests};
 ghost use Rattle.act1_sim.specs.Vectors.{AreVectorsOf, bits_of, output_text};
-ghost use Rattle.act1_sim.specs.Simulation.{Simulates, RefusesToSimulate, UnsettledBy, ArrayStops, VectorStops};
+ghost use Rattle.act1_sim.specs.Simulation.{Simulates, RefusesToSimulate};
+ghost use Rattle.act1_sim.specs.SimulationSteps.{ArrayStops, UnsettledBy, VectorStops};
 
 use crate::begin::first_bits;
 use crate::cycle::run_cycle;

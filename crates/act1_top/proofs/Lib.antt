@@ -1,7 +1,8 @@
-pub mod Causes
+pub mod BlifLaws
+pub mod Commands
 pub mod Constants
-pub mod Done
-pub mod Endings
-pub mod Runs
-pub mod Stages
-pub mod Statuses
+pub mod FlowLaws
+pub mod Places
+pub mod SimLaws
+pub mod TextsRead
+pub mod Usage

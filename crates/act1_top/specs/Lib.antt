@@ -1,7 +1,7 @@
-pub mod Command
-pub mod Ending
-pub mod Outcome
-pub mod Printing
-pub mod Reading
+pub mod BlifCommand
+pub mod Files
+pub mod FlowCommand
+pub mod Laws
 pub mod Run
-pub mod Stop
+pub mod SimCommand
+pub mod Words

@@ -1,35 +1,45 @@
-use crate::word::Word;
+use act1_frame::Word;
+
+/// The words of `flow DEVICE BLIF FUSES REPORT`.
+#[derive(Debug, Drop)]
+pub struct FlowWords {
+    /// The device file.
+    pub device: Word,
+    /// The netlist.
+    pub blif: Word,
+    /// The antifuse file, which is written at status 0.
+    pub fuses: Word,
+    /// The report, which isn't written today.
+    pub report: Word,
+}
+
+/// The words of `sim DEVICE FUSES VECTORS`.
+#[derive(Debug, Drop)]
+pub struct SimWords {
+    /// The device file.
+    pub device: Word,
+    /// The antifuse file.
+    pub fuses: Word,
+    /// The input vectors.
+    pub vectors: Word,
+}
+
+/// The words of `blif BLIF`.
+#[derive(Debug, Drop)]
+pub struct BlifWords {
+    /// The netlist.
+    pub blif: Word,
+}
 
 /// What the words ask for.
 #[derive(Debug, Drop)]
 pub enum Command {
     /// The words are no command, or one that isn't built yet.
     Unknown,
-    /// Takes the netlist under `blif` to an antifuse file for the device under `device`. The file is
-    /// written under `fuses`; a report that a netlist can't be routed would be under `report`.
-    Flow {
-        /// The device file.
-        device: Word,
-        /// The netlist.
-        blif: Word,
-        /// The antifuse file, which is written at status 0.
-        fuses: Word,
-        /// The report, which isn't written today.
-        report: Word,
-    },
-    /// Prints the canonical text of the netlist under `blif`. It writes no file.
-    Blif {
-        /// The netlist.
-        blif: Word,
-    },
-    /// Simulates the array of the antifuse file under `fuses` on the device under `device`, over the
-    /// vectors under `vectors`. It writes no file.
-    Sim {
-        /// The device file.
-        device: Word,
-        /// The antifuse file.
-        fuses: Word,
-        /// The input vectors.
-        vectors: Word,
-    },
+    /// Takes a netlist to an antifuse file for a device.
+    Flow(FlowWords),
+    /// Simulates the array of an antifuse file over vectors. It writes no file.
+    Sim(SimWords),
+    /// Prints the canonical text of a netlist. It writes no file.
+    Blif(BlifWords),
 }

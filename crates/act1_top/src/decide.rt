@@ -1,53 +1,55 @@
-ghost use Rattle.std.specs.Prelude.{map, IfOk, IfErr};
+ghost use Rattle.std.specs.Prelude.{◌≡◌, map, IfOk, IfErr};
 ghost use Rattle.std.specs.String.{string_bytes};
-ghost use Rattle.act1_top.specs.Command.{command_of};
-ghost use Rattle.act1_top.specs.Reading.{OnlyRead};
-ghost use Rattle.act1_top.specs.Outcome.{MayEnd};
-ghost use Rattle.act1_top.specs.Stop.{OnStop};
+ghost use Rattle.act1_frame.specs.Reading.{OnlyRead};
+ghost use Rattle.act1_frame.specs.Stages.{OnStop};
+ghost use Rattle.act1_top.specs.Run.{MayEnd, usage_ending};
+ghost use Rattle.act1_top.specs.Words.{command_of};
 
-use crate::blif_command::blif_outcome;
+use crate::blif_command::blif_ending;
 use crate::command::Command;
-use crate::flow_command::flow_outcome;
-use crate::outcome::Outcome;
-use crate::sim_command::sim_outcome;
-use crate::stop::Stop;
+use crate::flow_command::flow_ending;
+use crate::sim_command::sim_ending;
 use crate::words::command_of;
-use act1_base::Memory;
+use act1_base::{Memory, write_word};
+use act1_frame::{Ending, Stop, with_text};
 use act1_outside::Files;
 use std::alloc::Global;
 
+// The ending of words that are no command.
+fn usage_ending(alloc: Global) -> Result<Ending, Memory>
+    ensures { IfOk result (λ ending. ending ≡ usage_ending) }
+{
+    let mut text = Vec::new(alloc);
+    write_word(
+        &mut text,
+        b"usage: act1 flow|sim|extract|check|search|cover|blif|demo",
+    )?;
+    Ok(with_text(1, text))
+}
+
 // How the command ends.
-fn outcome_of<F: Files>(alloc: Global, files: &mut F, command: &Command) -> Result<Outcome, Stop>
-    ensures ok { IfOk result (MayEnd (F.seen files.old) (F.seen files.new) command.now) }
-    ensures err { IfErr result (OnStop (MayEnd (F.seen files.old) (F.seen files.new) command.now)) }
+fn ending_of<F: Files>(alloc: Global, files: &mut F, command: &Command) -> Result<Ending, Stop>
+    ensures ok { IfOk result (MayEnd command.now (F.seen files.old) (F.seen files.new)) }
+    ensures err { IfErr result (OnStop (MayEnd command.now (F.seen files.old) (F.seen files.new))) }
     ensures files { OnlyRead (F.seen files.old) (F.seen files.new) }
 {
     match command {
-        Command::Unknown => Ok(Outcome::Usage),
-        Command::Flow {
-            device,
-            blif,
-            fuses,
-            ..
-        } => flow_outcome(alloc, files, device, blif, fuses),
-        Command::Blif { blif } => blif_outcome(alloc, files, blif),
-        Command::Sim {
-            device,
-            fuses,
-            vectors,
-        } => sim_outcome(alloc, files, device, fuses, vectors),
+        Command::Unknown => Ok(usage_ending(alloc)?),
+        Command::Flow(words) => flow_ending(alloc, files, words),
+        Command::Sim(words) => sim_ending(alloc, files, words),
+        Command::Blif(words) => blif_ending(alloc, files, words),
     }
 }
 
 /// How the command that the words ask for ends. Files are read; nothing is written or printed yet.
-pub fn decide<F: Files>(alloc: Global, words: &[String], files: &mut F) -> Result<Outcome, Memory>
-    ensures outcome { IfOk result (MayEnd (F.seen files.old) (F.seen files.new) (command_of (map string_bytes words.now))) }
+pub fn decide<F: Files>(alloc: Global, words: &[String], files: &mut F) -> Result<Ending, Memory>
+    ensures ending { IfOk result (MayEnd (command_of (map string_bytes words.now)) (F.seen files.old) (F.seen files.new)) }
     ensures files { OnlyRead (F.seen files.old) (F.seen files.new) }
 {
     let command = command_of(alloc, words)?;
-    match outcome_of(alloc, files, &command) {
-        Ok(outcome) => Ok(outcome),
-        Err(Stop::Ends(outcome)) => Ok(outcome),
+    match ending_of(alloc, files, &command) {
+        Ok(ending) => Ok(ending),
+        Err(Stop::Ends(ending)) => Ok(ending),
         Err(Stop::Memory) => Err(Memory),
     }
 }

@@ -1,12 +1,14 @@
-ghost use Rattle.std.specs.Prelude.{◌≡◌, ◌≢◌, map};
+ghost use Rattle.std.specs.Prelude.{◌≡◌, map};
 ghost use Rattle.std.specs.String.{string_bytes};
-ghost use Rattle.act1_outside.specs.Outside.{SameHeld};
-ghost use Rattle.act1_top.specs.Command.{command_of};
+ghost use Rattle.act1_frame.specs.Clauses.{RunEnds, HasReadFault, HasWriteFault, HasLongFile, Answers, CausesAreAnswered, IsComplete, KeepsAllBut, KeepsWhatIsNotWritten};
+ghost use Rattle.act1_frame.specs.World.{world_of};
+ghost use Rattle.act1_top.specs.Words.{command_of};
 ghost use Rattle.act1_top.specs.declared.command.Command.TheVariants.{Unknown};
-ghost use Rattle.act1_top.specs.Run.{IsDone, RunEnds, HasReadFault, HasWriteFault, HasLongFile, Answers, CausesAreAnswered, IsComplete, OthersKept};
+ghost use Rattle.act1_top.specs.Run.{IsDone, MayEnd, reads_of, writes_of, writes_at};
 
 use crate::decide::decide;
-use crate::finish::{finish, say_memory};
+use crate::laws::texts_are_one;
+use act1_frame::{finish, say_memory};
 use act1_outside::{Files, Helpers, Sink};
 use std::alloc::Global;
 
@@ -21,31 +23,32 @@ pub fn run<F: Files, S: Sink, H: Helpers>(
     out: &mut S,
     helpers: &mut H,
 ) -> u8
-    // Status 0 of `flow` is the headline; status 0 of `sim` is the simulation that is printed.
-    ensures done { result ≡ 0 → IsDone (command_of (map string_bytes words.now)) (F.seen files.old) (S.seen out.old) (F.seen files.new) (S.seen out.new) }
+    // Status 0 of `flow` is the headline; status 0 of `sim` and `blif` is what is printed.
+    ensures done { result ≡ 0 → IsDone (command_of (map string_bytes words.now)) (world_of (F.seen files.old) (S.seen out.old) (H.seen helpers.old)) (world_of (F.seen files.new) (S.seen out.new) (H.seen helpers.new)) }
 
-    // What is printed and written is that of an outcome that the words and files allow.
-    ensures ends { RunEnds (command_of (map string_bytes words.now)) (F.seen files.old) (S.seen out.old) result (F.seen files.new) (S.seen out.new) }
+    // What is printed and written is that of an ending that the words and files allow.
+    ensures ends { RunEnds (MayEnd (command_of (map string_bytes words.now))) (world_of (F.seen files.old) (S.seen out.old) (H.seen helpers.old)) result (world_of (F.seen files.new) (S.seen out.new) (H.seen helpers.new)) }
 
     // A cause that stands is answered, and with none the status is 0, or 15 for want of memory.
-    ensures causes { CausesAreAnswered (command_of (map string_bytes words.now)) (F.seen files.old) (S.seen out.old) result (F.seen files.new) (S.seen out.new) }
-    ensures complete { IsComplete (command_of (map string_bytes words.now)) (F.seen files.old) (S.seen out.old) result (F.seen files.new) (S.seen out.new) }
+    ensures causes { CausesAreAnswered (MayEnd (command_of (map string_bytes words.now))) (reads_of (command_of (map string_bytes words.now))) (writes_of (command_of (map string_bytes words.now))) (world_of (F.seen files.old) (S.seen out.old) (H.seen helpers.old)) result (world_of (F.seen files.new) (S.seen out.new) (H.seen helpers.new)) }
+    ensures complete { IsComplete (MayEnd (command_of (map string_bytes words.now))) (writes_of (command_of (map string_bytes words.now))) (world_of (F.seen files.old) (S.seen out.old) (H.seen helpers.old)) result (world_of (F.seen files.new) (S.seen out.new) (H.seen helpers.new)) }
     ensures usage { command_of (map string_bytes words.now) ≡ Unknown
-        → Answers 1 (command_of (map string_bytes words.now)) (F.seen files.old) (S.seen out.old) result (F.seen files.new) (S.seen out.new) }
+        → Answers 1 (writes_of (command_of (map string_bytes words.now))) (world_of (F.seen files.old) (S.seen out.old) (H.seen helpers.old)) result (world_of (F.seen files.new) (S.seen out.new) (H.seen helpers.new)) }
 
     // Statuses 1, 2, 3 and 16 come only with their causes.
     ensures no_command { result ≡ 1 → command_of (map string_bytes words.now) ≡ Unknown }
-    ensures read_fault { result ≡ 2 → HasReadFault (command_of (map string_bytes words.now)) (F.seen files.old) (F.seen files.new) }
-    ensures write_fault { result ≡ 3 → HasWriteFault (command_of (map string_bytes words.now)) (F.seen files.old) (S.seen out.old) (F.seen files.new) (S.seen out.new) }
-    ensures too_long { result ≡ 16 → HasLongFile (command_of (map string_bytes words.now)) (F.seen files.old) }
+    ensures read_fault { result ≡ 2 → HasReadFault (reads_of (command_of (map string_bytes words.now))) (F.seen files.old) (F.seen files.new) }
+    ensures write_fault { result ≡ 3 → HasWriteFault (writes_of (command_of (map string_bytes words.now))) (world_of (F.seen files.old) (S.seen out.old) (H.seen helpers.old)) (world_of (F.seen files.new) (S.seen out.new) (H.seen helpers.new)) }
+    ensures too_long { result ≡ 16 → HasLongFile (reads_of (command_of (map string_bytes words.now))) (F.seen files.old) }
 
     // What the names hold afterwards, and the helpers.
-    ensures kept { result ≢ 0 → result ≢ 3 → result ≢ 15 → SameHeld (F.seen files.old) (F.seen files.new) }
-    ensures others { OthersKept (command_of (map string_bytes words.now)) (F.seen files.old) (F.seen files.new) }
+    ensures kept { KeepsWhatIsNotWritten (writes_at (command_of (map string_bytes words.now))) (world_of (F.seen files.old) (S.seen out.old) (H.seen helpers.old)) result (world_of (F.seen files.new) (S.seen out.new) (H.seen helpers.new)) }
+    ensures others { KeepsAllBut (writes_of (command_of (map string_bytes words.now))) (world_of (F.seen files.old) (S.seen out.old) (H.seen helpers.old)) (world_of (F.seen files.new) (S.seen out.new) (H.seen helpers.new)) }
     ensures helpers { helpers.new ≡ helpers.old }
 {
+    texts_are_one();
     match decide(alloc, words, files) {
-        Ok(outcome) => finish(alloc, &outcome, files, out),
+        Ok(ending) => finish(alloc, &ending, files, out),
         Err(_) => say_memory(out),
     }
 }

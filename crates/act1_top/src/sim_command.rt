@@ -1,59 +1,62 @@
-ghost use Rattle.std.specs.Prelude.{◌≤◌, length, IfOk, IfErr};
+ghost use Rattle.std.specs.Prelude.{◌≡◌, ◌≤◌, length, IfOk, IfErr};
 ghost use Rattle.act1_fuses.specs.Rules.{KeepsRules};
-ghost use Rattle.act1_top.specs.Reading.{OnlyRead};
-ghost use Rattle.act1_top.specs.Outcome.{SimEnds, SimMayEnd};
-ghost use Rattle.act1_top.specs.Stop.{OnStop};
+ghost use Rattle.act1_frame.specs.Reading.{OnlyRead};
+ghost use Rattle.act1_frame.specs.Stages.{OnStop};
+ghost use Rattle.act1_top.specs.SimCommand.{SimEnds, SimMayEnd, sim_status, sim_refusal};
 
+use crate::command::SimWords;
 use crate::found::{bytes_under, device_under, fuses_under};
-use crate::outcome::Outcome;
-use crate::stop::Stop;
-use crate::word::Word;
-use act1_base::Items;
+use act1_base::Memory;
 use act1_device::Device;
+use act1_frame::{Ending, Stop, with_text};
 use act1_fuses::FuseFile;
 use act1_outside::Files;
-use act1_sim::{SimFault, simulate};
+use act1_sim::{SimFault, simulate, write_sim_fault};
 use std::alloc::Global;
 
+// The status of a refusal to simulate.
+fn sim_status(fault: SimFault) -> u8
+    ensures { result ≡ sim_status fault }
+{
+    match fault {
+        SimFault::Array(_) => 13,
+        SimFault::Vector(_) => 7,
+        SimFault::Unsettled { .. } => 14,
+        SimFault::Memory => 15,
+    }
+}
+
+// The ending of an array that isn't simulated.
+fn refused_ending(alloc: Global, fault: SimFault) -> Result<Ending, Memory>
+    ensures { IfOk result (λ ending. ending ≡ sim_refusal fault) }
+{
+    let mut text = Vec::new(alloc);
+    write_sim_fault(&mut text, fault)?;
+    Ok(with_text(sim_status(fault), text))
+}
+
 // The array over the vectors, where a module without a declared start begins with 0.
-fn simulated(
-    alloc: Global,
-    device: &Device,
-    file: &FuseFile,
-    vectors: &[u8],
-) -> Result<Outcome, Stop>
+fn sim_ends(alloc: Global, device: &Device, file: &FuseFile, vectors: &[u8]) -> Result<Ending, Stop>
     requires keeps { KeepsRules device.now file.now }
     requires few { length vectors.now ≤ 4000000000 }
     ensures ok { IfOk result (SimEnds device.now file.now vectors.now) }
     ensures err { IfErr result (OnStop (SimEnds device.now file.now vectors.now)) }
 {
     match simulate(alloc, device, file, vectors, false) {
-        Ok(text) => Ok(Outcome::Simulated {
-            text: Items::from_vec(text),
-        }),
-        Err(SimFault::Array(fault)) => Err(Stop::Ends(Outcome::ArrayRefused { fault })),
-        Err(SimFault::Vector(line)) => Err(Stop::Ends(Outcome::VectorsRefused { line })),
-        Err(SimFault::Unsettled { cycle, spot }) => {
-            Err(Stop::Ends(Outcome::Unsettled { cycle, spot }))
-        }
+        Ok(text) => Ok(with_text(0, text)),
         Err(SimFault::Memory) => Err(Stop::Memory),
+        Err(fault) => Ok(refused_ending(alloc, fault)?),
     }
 }
 
 /// The stages of `sim` in their order.
-pub fn sim_outcome<F: Files>(
-    alloc: Global,
-    files: &mut F,
-    device: &Word,
-    fuses: &Word,
-    vectors: &Word,
-) -> Result<Outcome, Stop>
-    ensures ok { IfOk result (SimMayEnd (F.seen files.old) (F.seen files.new) device.now fuses.now vectors.now) }
-    ensures err { IfErr result (OnStop (SimMayEnd (F.seen files.old) (F.seen files.new) device.now fuses.now vectors.now)) }
+pub fn sim_ending<F: Files>(alloc: Global, files: &mut F, words: &SimWords) -> Result<Ending, Stop>
+    ensures ok { IfOk result (SimMayEnd words.now (F.seen files.old) (F.seen files.new)) }
+    ensures err { IfErr result (OnStop (SimMayEnd words.now (F.seen files.old) (F.seen files.new))) }
     ensures files { OnlyRead (F.seen files.old) (F.seen files.new) }
 {
-    let device = device_under(alloc, files, device)?;
-    let file = fuses_under(alloc, files, &device, fuses)?;
-    let bytes = bytes_under(alloc, files, vectors)?;
-    simulated(alloc, &device, &file, &bytes)
+    let device = device_under(alloc, files, &words.device)?;
+    let file = fuses_under(alloc, files, &device, &words.fuses)?;
+    let bytes = bytes_under(alloc, files, &words.vectors)?;
+    sim_ends(alloc, &device, &file, &bytes)
 }

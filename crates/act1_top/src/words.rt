@@ -1,10 +1,10 @@
 ghost use Rattle.std.specs.Prelude.{◌≡◌, map, IfOk};
 ghost use Rattle.std.specs.String.{string_bytes};
-ghost use Rattle.act1_top.specs.Command.{command_of, is_file};
+ghost use Rattle.act1_top.specs.Words.{command_of, is_file};
 
-use crate::command::Command;
-use crate::word::Word;
+use crate::command::{BlifWords, Command, FlowWords, SimWords};
 use act1_base::Memory;
+use act1_frame::Word;
 use std::alloc::Global;
 
 // Whether the word begins with no `-`.
@@ -32,12 +32,12 @@ pub fn command_of(alloc: Global, words: &[String]) -> Result<Command, Memory>
         [word, device, blif, fuses, report] => {
             let files = is_file(device) && is_file(blif) && is_file(fuses) && is_file(report);
             if word.as_str() == "flow" && files {
-                Ok(Command::Flow {
+                Ok(Command::Flow(FlowWords {
                     device: word_of(alloc, device)?,
                     blif: word_of(alloc, blif)?,
                     fuses: word_of(alloc, fuses)?,
                     report: word_of(alloc, report)?,
-                })
+                }))
             } else {
                 Ok(Command::Unknown)
             }
@@ -45,20 +45,20 @@ pub fn command_of(alloc: Global, words: &[String]) -> Result<Command, Memory>
         [word, device, fuses, vectors] => {
             let files = is_file(device) && is_file(fuses) && is_file(vectors);
             if word.as_str() == "sim" && files {
-                Ok(Command::Sim {
+                Ok(Command::Sim(SimWords {
                     device: word_of(alloc, device)?,
                     fuses: word_of(alloc, fuses)?,
                     vectors: word_of(alloc, vectors)?,
-                })
+                }))
             } else {
                 Ok(Command::Unknown)
             }
         }
         [word, blif] => {
             if word.as_str() == "blif" && is_file(blif) {
-                Ok(Command::Blif {
+                Ok(Command::Blif(BlifWords {
                     blif: word_of(alloc, blif)?,
-                })
+                }))
             } else {
                 Ok(Command::Unknown)
             }

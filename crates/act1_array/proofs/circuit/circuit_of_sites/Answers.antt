@@ -3,7 +3,7 @@ use Rattle.std.specs.Prelude.{Ok, Err}
 use Rattle.std.proofs.lemmas.Result.{err_from_is_err_and}
 use Rattle.act1_circuit.specs.declared.circuit.Spot.{Spot}
 use Rattle.act1_fuses.specs.declared.fuses.Port.{Port}
-use Rattle.act1_array.specs.Parts.{GivesStarts}
+use Rattle.act1_array.specs.PartSteps.{GivesStarts}
 use Rattle.act1_array.proofs.Bounds.{inputs_once, outputs_apart}
 use Rattle.act1_array.proofs.CircuitLemmas.{gives_circuit}
 use Rattle.act1_array.proofs.Refusals.{modules_refused, outputs_refused, starts_refused}
@@ -53,5 +53,5 @@ returns-clause-gives c = λ rules.
     let modules = c.in_ok-modules.ensures dev f h in
     let outputs = c.in_ok-outputs.ensures dev h (outputs_apart dev f rules) in
     let starts = subst (λ (xs : List Spot). GivesStarts f xs (Ok c.in_ok-starts.starts)) c.spots.ensures c.in_ok-starts.ensures in
-    gives_circuit dev f c.in_ok-network.network h _ apart modules outputs starts.0 starts.1 c.into_spots.ensures c.in_ok-copy_of.ensures
+    gives_circuit dev f c.in_ok-network.network h _ apart modules outputs starts.0 starts.1 c.into_spots.ensures c.in_ok-copy_of_name.ensures
     (c.in_ok-names_of.ensures ∙ ap (map (λ (port : Port). port.name)) c.as_slice.ensures)

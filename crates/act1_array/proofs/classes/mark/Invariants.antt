@@ -1,5 +1,5 @@
 use Rattle.std.proofs.Common.{◌≡◌, drop, length}
-use Rattle.act1_array.specs.Classes.{marked}
+use Rattle.act1_array.specs.ClassSteps.{marked}
 use Rattle.act1_array.proofs.classes.mark.Given as goal
 
 -- what is to come decides

@@ -3,7 +3,7 @@ use Rattle.std.specs.Prelude.{slice_get}
 use Rattle.std.proofs.lemmas.Option.{slice_get-get_or}
 use Rattle.act1_circuit.specs.declared.circuit.Source.{Source}
 use Rattle.act1_circuit.specs.declared.circuit.Spot.{Spot}
-use Rattle.act1_array.specs.Parts.{AreModules}
+use Rattle.act1_array.specs.PartSteps.{AreModules}
 use Rattle.act1_array.proofs.CircuitLemmas.{modules_more, first_floating}
 use Rattle.act1_array.proofs.modules.modules_of.Goals as goal
 

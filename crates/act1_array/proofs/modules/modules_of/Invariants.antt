@@ -1,7 +1,7 @@
 use Rattle.act1_device.specs.declared.device.Device.{Device}
 use Rattle.act1_fuses.specs.declared.fuses.FuseFile.{FuseFile}
-use Rattle.act1_array.specs.Network.{IsNetworkOf}
-use Rattle.act1_array.specs.Parts.{AreModules}
+use Rattle.act1_array.specs.NetworkSteps.{IsNetworkOf}
+use Rattle.act1_array.specs.PartSteps.{AreModules}
 use Rattle.act1_array.proofs.modules.modules_of.Given as goal
 
 -- the modules so far have their sources

@@ -1,6 +1,6 @@
 use Rattle.act1_device.specs.declared.device.Device.{Device}
 use Rattle.act1_fuses.specs.declared.fuses.FuseFile.{FuseFile}
-use Rattle.act1_array.specs.Network.{IsNetworkOf}
+use Rattle.act1_array.specs.NetworkSteps.{IsNetworkOf}
 use Rattle.act1_array.proofs.CircuitLemmas.{ArePins}
 use Rattle.act1_array.proofs.modules.pins_of.Given as goal
 

@@ -2,7 +2,7 @@ use Rattle.std.proofs.Common.{◌+◌, List, take, sym, subst, ◌∙◌}
 use Rattle.act1_circuit.specs.declared.circuit.Output.{Output}
 use Rattle.act1_fuses.specs.declared.fuses.Port.{Port}
 use Rattle.act1_fuses.specs.Array.{IsSource, pad_wire}
-use Rattle.act1_array.specs.Parts.{AreOutputs}
+use Rattle.act1_array.specs.PartSteps.{AreOutputs}
 use Rattle.act1_base.proofs.ListGets.{get_read}
 use Rattle.act1_array.proofs.CircuitLemmas.{outputs_more, first_unfed, item_at, of_item, taken_all}
 use Rattle.act1_array.proofs.outputs.outputs_of.Goals as goal

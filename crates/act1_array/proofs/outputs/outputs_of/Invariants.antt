@@ -2,8 +2,8 @@ use Rattle.std.proofs.Common.{take, All}
 use Rattle.act1_device.specs.declared.device.Device.{Device}
 use Rattle.act1_fuses.specs.declared.fuses.Port.{Port}
 use Rattle.act1_fuses.specs.Array.{IsSource, pad_wire}
-use Rattle.act1_array.specs.Network.{IsNetworkOf}
-use Rattle.act1_array.specs.Parts.{AreOutputs}
+use Rattle.act1_array.specs.NetworkSteps.{IsNetworkOf}
+use Rattle.act1_array.specs.PartSteps.{AreOutputs}
 use Rattle.act1_array.proofs.outputs.outputs_of.Given as goal
 
 -- the outputs so far have their sources

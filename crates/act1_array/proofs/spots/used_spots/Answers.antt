@@ -3,7 +3,7 @@ use Rattle.act1_array.proofs.SpotLemmas.{sites_are_inside, spots_end, spots_are_
 use Rattle.act1_array.proofs.spots.used_spots.Goals as goal
 
 pub marks_of-requires : goal.marks_of-requires
-marks_of-requires c = sites_are_inside c.args.device.now c.args.sites.now c.requires
+marks_of-requires c = sites_are_inside c.devices_are_small.ensures c.args.device.now c.args.sites.now c.requires
 
 pub returns-clause-used : goal.returns-clause-used
 returns-clause-used c =

@@ -3,7 +3,7 @@ use Rattle.std.proofs.lemmas.List.Elements.{All-more}
 use Rattle.act1_circuit.specs.declared.circuit.Start.{Start}
 use Rattle.act1_fuses.specs.declared.fuses.StartAt.{StartAt}
 use Rattle.act1_fuses.specs.Array.{IsUsed}
-use Rattle.act1_array.specs.Parts.{AreStarts}
+use Rattle.act1_array.specs.PartSteps.{AreStarts}
 use Rattle.act1_base.proofs.ListGets.{get_read, contains_at}
 use Rattle.act1_array.proofs.CircuitLemmas.{starts_more, first_unused, item_at, taken_all}
 use Rattle.act1_array.proofs.starts.starts_of.Goals as goal

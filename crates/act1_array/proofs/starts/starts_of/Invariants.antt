@@ -1,7 +1,7 @@
 use Rattle.std.proofs.Common.{take, All}
 use Rattle.act1_fuses.specs.declared.fuses.StartAt.{StartAt}
 use Rattle.act1_fuses.specs.Array.{IsUsed}
-use Rattle.act1_array.specs.Parts.{AreStarts}
+use Rattle.act1_array.specs.PartSteps.{AreStarts}
 use Rattle.act1_array.proofs.starts.starts_of.Given as goal
 
 -- the starts so far stand at their modules

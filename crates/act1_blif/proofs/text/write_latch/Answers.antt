@@ -1,7 +1,7 @@
 use Rattle.std.specs.Fmt.{decimal}
 use Rattle.act1_blif.specs.Names.{signal_name}
 use Rattle.act1_blif.specs.Text.{control_words}
-use Rattle.act1_blif.proofs.TextGrows.{latch_grows}
+use Rattle.act1_blif.proofs.LineGrows.{latch_grows}
 use Rattle.act1_blif.proofs.text.write_latch.Goals as goal
 
 pub returns : goal.returns
@@ -11,5 +11,5 @@ returns c =
     (rw c.signal_name.ensures at c.in_ok-add_word.ensures)
     (rw c.as_bytes.ensures.value at c.in_ok-add_word-2.ensures)
     c.in_ok-add_control.ensures
-    c.in_ok-add_init.ensures
+    (rw c.from.ensures at c.in_ok-add_number.ensures)
     c.in_ok-push.ensures.items

@@ -1,4 +1,4 @@
-use Rattle.act1_blif.proofs.TextGrows.{line_grows}
+use Rattle.act1_blif.proofs.LineGrows.{line_grows}
 use Rattle.act1_blif.proofs.text.write_names.Goals as goal
 
 pub returns : goal.returns

@@ -2,7 +2,7 @@ use Rattle.std.proofs.Common.{map}
 use Rattle.act1_logic.specs.declared.cover.Row.{Row}
 use Rattle.act1_blif.specs.Names.{signal_name}
 use Rattle.act1_blif.specs.Text.{row_words}
-use Rattle.act1_blif.proofs.TextGrows.{node_grows}
+use Rattle.act1_blif.proofs.LineGrows.{node_grows}
 use Rattle.act1_blif.proofs.text.write_node.Goals as goal
 
 pub returns : goal.returns

@@ -1,6 +1,6 @@
 use Rattle.std.proofs.Common.{map}
 use Rattle.act1_blif.specs.Names.{signal_name}
-use Rattle.act1_blif.proofs.TextGrows.{line_grows}
+use Rattle.act1_blif.proofs.LineGrows.{line_grows}
 use Rattle.act1_blif.proofs.text.write_signals.Goals as goal
 
 pub returns : goal.returns

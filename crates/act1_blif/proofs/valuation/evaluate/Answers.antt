@@ -1,6 +1,6 @@
 use Rattle.std.proofs.Common.{ℕ, ◌+◌, ◌-◌, Bool, List, length, refl, sym, ap, ◌∙◌, arith}
 use Rattle.std.specs.Prelude.{slice_set}
-use Rattle.act1_order.proofs.ListGets.{some_is}
+use Rattle.act1_base.proofs.ListGets.{some_is}
 use Rattle.act1_blif.specs.declared.blif.Node.{Node}
 use Rattle.act1_blif.specs.Run.{node_value}
 use Rattle.act1_blif.proofs.NetFacts.{signal_count, node_is, node_width, read_node}

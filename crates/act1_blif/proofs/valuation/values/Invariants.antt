@@ -1,4 +1,4 @@
-use Rattle.act1_blif.specs.Valuation.{AreEvaluated}
+use Rattle.act1_blif.specs.ValuationSteps.{AreEvaluated}
 use Rattle.act1_blif.proofs.valuation.values.Given as goal
 
 -- the first signals of the order have their values

@@ -2,7 +2,7 @@ use Rattle.std.proofs.Common.{ℕ, ◌≡◌, List, ◌++◌, Option, true, sym,
 use Rattle.std.proofs.lemmas.Result.{IfOk-weaker}
 use Rattle.act1_bliftext.specs.Rules.{are_below}
 use Rattle.act1_blifread.specs.Parts.{all_of, node_names}
-use Rattle.act1_blifread.specs.Steps.{ArePlaces}
+use Rattle.act1_blifread.specs.NetlistSteps.{ArePlaces}
 use Rattle.act1_blifread.proofs.NodeGraphs.{all_below, node_below, graph_is}
 use Rattle.act1_blifread.proofs.graph.node_graph.Goals as goal
 

@@ -1,7 +1,7 @@
 use Rattle.std.proofs.Common.{ℕ, ◌≡◌, List, ◌++◌, Option, get_or, take, refl, sym, ap, ◌∙◌}
 use Rattle.std.specs.List.{filter_map}
 use Rattle.std.specs.Option.{option_to_list}
-use Rattle.act1_blifread.specs.Steps.{place_at}
+use Rattle.act1_blifread.specs.NetlistSteps.{place_at}
 use Rattle.act1_blifread.proofs.StatementLists.{filter_map_at}
 use Rattle.act1_blifread.proofs.graph.places_among.Goals as goal
 

@@ -1,6 +1,6 @@
 use Rattle.std.proofs.Common.{◌≡◌, take}
 use Rattle.std.specs.List.{filter_map}
-use Rattle.act1_blifread.specs.Steps.{place_at}
+use Rattle.act1_blifread.specs.NetlistSteps.{place_at}
 use Rattle.act1_blifread.proofs.graph.places_among.Given as goal
 
 abbrev pub invariant-loop-name : goal.invariant-loop-name

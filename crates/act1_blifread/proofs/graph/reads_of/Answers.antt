@@ -1,7 +1,7 @@
 use Rattle.std.proofs.Common.{ℕ, List, ◌++◌, sym, ap, ◌∙◌}
 use Rattle.std.specs.Option.{option_to_list}
 use Rattle.act1_bliftext.specs.declared.statement.NumberedStatement.{NumberedStatement}
-use Rattle.act1_blifread.specs.Steps.{reads_in}
+use Rattle.act1_blifread.specs.NetlistSteps.{reads_in}
 use Rattle.act1_blifread.proofs.StatementLists.{filter_map_read}
 use Rattle.act1_blifread.proofs.graph.reads_of.Goals as goal
 

@@ -1,7 +1,7 @@
 use Rattle.std.proofs.Common.{◌≡◌, take}
 use Rattle.std.specs.List.{filter_map}
 use Rattle.act1_bliftext.specs.declared.statement.NumberedStatement.{NumberedStatement}
-use Rattle.act1_blifread.specs.Steps.{reads_in}
+use Rattle.act1_blifread.specs.NetlistSteps.{reads_in}
 use Rattle.act1_blifread.proofs.graph.reads_of.Given as goal
 
 abbrev pub invariant-loop-numbered : goal.invariant-loop-numbered

@@ -1,7 +1,7 @@
 use Rattle.std.proofs.Common.{◌≡◌, ◌<◌, ◌+◌, ℕ, List, ◌++◌, ◌∷◌, [], not, true, false, length, get_or, take, drop, set, sym, ap, subst, ◌∙◌, append_assoc, arith}
 use Rattle.std.proofs.lemmas.List.{length-set, take_more}
 use Rattle.act1_base.specs.Names.{are_different_numbers}
-use Rattle.act1_blifread.specs.Steps.{AreMarks}
+use Rattle.act1_blifread.specs.NetlistSteps.{AreMarks}
 use Rattle.act1_blifread.proofs.NumberLists.{marked_again, marked_more, split_at, below_at}
 use Rattle.act1_blifread.proofs.StatementLists.{read_or}
 use Rattle.act1_blifread.proofs.marks.is_marked_again.Goals as goal

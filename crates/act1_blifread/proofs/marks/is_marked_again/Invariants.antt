@@ -1,5 +1,5 @@
 use Rattle.std.proofs.Common.{◌≡◌, List, ℕ, ◌++◌, length, take}
-use Rattle.act1_blifread.specs.Steps.{AreMarks}
+use Rattle.act1_blifread.specs.NetlistSteps.{AreMarks}
 use Rattle.act1_blifread.proofs.marks.is_marked_again.Given as goal
 
 -- the marks are those of the names before and of those so far

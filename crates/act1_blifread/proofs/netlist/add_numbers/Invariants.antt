@@ -1,5 +1,5 @@
 use Rattle.std.proofs.Common.{◌≡◌, ◌++◌, map, take}
-use Rattle.act1_blifread.specs.Steps.{number_at}
+use Rattle.act1_blifread.specs.NetlistSteps.{number_at}
 use Rattle.act1_blifread.proofs.netlist.add_numbers.Given as goal
 
 abbrev pub invariant-loop-name : goal.invariant-loop-name

@@ -2,7 +2,7 @@ use Rattle.std.proofs.Common.{length, List, ◌++◌, sym, ap, ◌∙◌}
 use Rattle.std.specs.Option.{option_to_list}
 use Rattle.act1_blif.specs.declared.blif.Latch.{Latch}
 use Rattle.act1_bliftext.specs.declared.statement.NumberedStatement.{NumberedStatement}
-use Rattle.act1_blifread.specs.Steps.{latch_at}
+use Rattle.act1_blifread.specs.NetlistSteps.{latch_at}
 use Rattle.act1_blifread.proofs.StatementLists.{filter_map_read, statement_within}
 use Rattle.act1_blifread.proofs.netlist.latches_of.Goals as goal
 

@@ -1,5 +1,5 @@
 use Rattle.std.proofs.Common.{◌≡◌, take}
-use Rattle.act1_blifread.specs.Steps.{latches_at}
+use Rattle.act1_blifread.specs.NetlistSteps.{latches_at}
 use Rattle.act1_blifread.proofs.netlist.latches_of.Given as goal
 
 abbrev pub invariant-loop-numbered : goal.invariant-loop-numbered

@@ -2,7 +2,7 @@ use Rattle.std.proofs.Common.{List, ◌++◌, sym, ap, ◌∙◌}
 use Rattle.std.specs.Option.{option_to_list}
 use Rattle.act1_blif.specs.declared.blif.Node.{Node}
 use Rattle.act1_bliftext.specs.declared.statement.NumberedStatement.{NumberedStatement}
-use Rattle.act1_blifread.specs.Steps.{node_at}
+use Rattle.act1_blifread.specs.NetlistSteps.{node_at}
 use Rattle.act1_blifread.proofs.StatementLists.{filter_map_push}
 use Rattle.act1_blifread.proofs.netlist.nodes_of.Goals as goal
 

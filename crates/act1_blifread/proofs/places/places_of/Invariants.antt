@@ -1,5 +1,5 @@
 use Rattle.std.proofs.Common.{take}
-use Rattle.act1_blifread.specs.Steps.{ArePlaces}
+use Rattle.act1_blifread.specs.NetlistSteps.{ArePlaces}
 use Rattle.act1_blifread.proofs.places.places_of.Given as goal
 
 -- the places are those of the names so far

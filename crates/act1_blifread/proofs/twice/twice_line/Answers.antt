@@ -1,7 +1,7 @@
 use Rattle.std.proofs.Common.{◌≡◌, ◌+◌, ℕ, List, false, take, length, sym, subst, ◌∙◌}
 use Rattle.act1_blifread.specs.Parts.{all_of, given_names, output_names}
 use Rattle.act1_blifread.specs.Faults.{is_twice}
-use Rattle.act1_blifread.specs.Steps.{AreMarks}
+use Rattle.act1_blifread.specs.NetlistSteps.{AreMarks}
 use Rattle.act1_blifread.proofs.StatementLists.{all_of_more}
 use Rattle.act1_blifread.proofs.TwiceLines.{marks_at, twice_more, twice_here, free_more}
 use Rattle.act1_blifread.proofs.twice.twice_line.Goals as goal

@@ -1,7 +1,7 @@
 use Rattle.std.proofs.Common.{◌≡◌, ◌<◌, ◌+◌, ℕ, false, take}
 use Rattle.act1_blifread.specs.Parts.{all_of, given_names, output_names}
 use Rattle.act1_blifread.specs.Faults.{is_twice}
-use Rattle.act1_blifread.specs.Steps.{AreMarks}
+use Rattle.act1_blifread.specs.NetlistSteps.{AreMarks}
 use Rattle.act1_blifread.proofs.twice.twice_line.Given as goal
 
 -- the marks are those of the statements so far, of which none gives a name again

@@ -1,7 +1,7 @@
 use Rattle.std.proofs.Common.{ℕ, Option, ap, ◌∙◌}
 use Rattle.act1_bliftext.specs.declared.fault.BlifKind.TheVariants.{ClockUsed}
 use Rattle.act1_blifread.specs.Faults.{is_clock_used}
-use Rattle.act1_blifread.specs.Steps.{IsFirstLine, first_line}
+use Rattle.act1_blifread.specs.NetlistSteps.{IsFirstLine, first_line}
 use Rattle.act1_blifread.proofs.FirstLines.{clock_used_is_bad, clock_used_lines, not_refused, refused}
 use Rattle.act1_blifread.proofs.whole.check_clock_use.Goals as goal
 

@@ -1,7 +1,7 @@
 use Rattle.std.proofs.Common.{ℕ, Option, ap, ◌∙◌}
 use Rattle.act1_bliftext.specs.declared.fault.BlifKind.TheVariants.{Clocks}
 use Rattle.act1_blifread.specs.Faults.{is_second_clock}
-use Rattle.act1_blifread.specs.Steps.{IsFirstLine, first_line}
+use Rattle.act1_blifread.specs.NetlistSteps.{IsFirstLine, first_line}
 use Rattle.act1_blifread.proofs.FirstLines.{clocks_are_bad, clocks_line, not_refused, refused}
 use Rattle.act1_blifread.proofs.whole.check_clocks.Goals as goal
 

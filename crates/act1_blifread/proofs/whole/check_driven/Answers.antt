@@ -4,7 +4,7 @@ use Rattle.act1_bliftext.specs.declared.fault.BlifKind.TheVariants.{Undriven}
 use Rattle.act1_bliftext.specs.declared.statement.Statement.{Statement}
 use Rattle.act1_blifread.specs.Parts.{clock_of, used_names}
 use Rattle.act1_blifread.specs.Faults.{is_undriven}
-use Rattle.act1_blifread.specs.Steps.{IsFirstLine, first_line, is_without_place}
+use Rattle.act1_blifread.specs.NetlistSteps.{IsFirstLine, first_line, is_without_place}
 use Rattle.act1_blifread.proofs.FirstLines.{undriven_is_bad, undriven_lines, first_line_same, not_refused, refused}
 use Rattle.act1_blifread.proofs.SignalLists.{undriven_same}
 use Rattle.act1_blifread.proofs.StatementRules.{kept}

@@ -2,7 +2,7 @@ use Rattle.std.proofs.Common.{◌≤◌, List, length, sym, subst}
 use Rattle.act1_bliftext.specs.declared.fault.BlifKind.TheVariants.{Loop}
 use Rattle.act1_bliftext.specs.declared.statement.NumberedStatement.{NumberedStatement}
 use Rattle.act1_blifread.specs.Parts.{all_of, node_names}
-use Rattle.act1_blifread.specs.Steps.{IsFirstLine}
+use Rattle.act1_blifread.specs.NetlistSteps.{IsFirstLine}
 use Rattle.act1_blifread.proofs.FirstLines.{loop_is_bad, refused}
 use Rattle.act1_blifread.proofs.SignalLists.{nodes_few}
 use Rattle.act1_blifread.proofs.StatementRules.{kept}

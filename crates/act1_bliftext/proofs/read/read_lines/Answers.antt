@@ -2,7 +2,7 @@ use Rattle.std.proofs.Common.{ℕ, List, ◌≡◌, ◌∷◌, sym, ap, subst, �
 use Rattle.std.proofs.lemmas.Result.{err_from_is_err_and}
 use Rattle.act1_base.specs.Lines.{lines_of}
 use Rattle.act1_bliftext.specs.Lines.{text_lines}
-use Rattle.act1_bliftext.specs.Places.{IsPlace}
+use Rattle.act1_bliftext.specs.PlaceSteps.{IsPlace}
 use Rattle.act1_bliftext.proofs.Bounds.{weight, lines_weight, add_weight}
 use Rattle.act1_bliftext.proofs.PlaceLemmas.{at_start}
 use Rattle.act1_bliftext.proofs.read.read_lines.Goals as goal

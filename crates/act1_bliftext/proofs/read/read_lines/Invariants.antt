@@ -1,6 +1,6 @@
 use Rattle.std.proofs.Common.{◌+◌, ◌≤◌, length}
 use Rattle.act1_bliftext.specs.Lines.{text_lines}
-use Rattle.act1_bliftext.specs.Places.{IsPlace, kept_bytes}
+use Rattle.act1_bliftext.specs.PlaceSteps.{IsPlace, kept_bytes}
 use Rattle.act1_bliftext.proofs.Bounds.{weight}
 use Rattle.act1_bliftext.proofs.read.read_lines.Given as goal
 

@@ -1,4 +1,4 @@
-use Rattle.act1_bliftext.specs.Places.{bytes_of}
+use Rattle.act1_bliftext.specs.PlaceSteps.{bytes_of}
 use Rattle.act1_bliftext.proofs.WholeLines.{line_ok, line_err, stop_is}
 use Rattle.act1_bliftext.proofs.read.take_line.Goals as goal
 

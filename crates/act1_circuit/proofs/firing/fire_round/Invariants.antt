@@ -1,4 +1,4 @@
-use Rattle.std.proofs.Common.{◌≡◌, ℕ, ◌<◌, false, length}
+use Rattle.std.proofs.Common.{◌≡◌, ℕ, ◌<◌, false}
 use Rattle.act1_circuit.specs.Firing.{fire, fire_all, site_order}
 use Rattle.act1_circuit.proofs.firing.fire_round.Given as goal
 

@@ -1,4 +1,4 @@
-use Rattle.std.proofs.Common.{length, ◌∙◌, ap, sym, subst, ◌≡◌, ℕ, arith}
+use Rattle.std.proofs.Common.{length, ◌∙◌, ap, sym, subst, ◌≡◌, ℕ}
 use Rattle.act1_circuit.specs.Firing.{fire_all, site_order}
 use Rattle.act1_circuit.proofs.Fires.{next_round, rested}
 use Rattle.act1_circuit.proofs.firing.settle.Goals as goal

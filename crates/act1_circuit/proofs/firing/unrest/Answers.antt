@@ -1,7 +1,7 @@
 use Rattle.std.proofs.Common.{◌≡◌, Bool, true, false, not, sym, ◌∙◌, ap, refl, below_more}
 use mathlib.Core.Bool.{beq}
 use Rattle.std.proofs.lemmas.List.{set-get_or}
-use Rattle.std.proofs.Math.ListN.{set, get_or}
+use Rattle.std.proofs.Math.ListN.{set}
 use Rattle.act1_circuit.proofs.firing.unrest.Goals as goal
 
 same : (a b : Bool) → not (beq a b) ≡ false → a ≡ b

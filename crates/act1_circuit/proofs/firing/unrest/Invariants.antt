@@ -1,4 +1,4 @@
-use Rattle.std.proofs.Common.{◌≡◌, ℕ, ◌<◌, length}
+use Rattle.std.proofs.Common.{◌≡◌, ℕ, ◌<◌}
 use Rattle.act1_circuit.specs.Firing.{fire}
 use Rattle.act1_circuit.proofs.firing.unrest.Given as goal
 

@@ -1,6 +1,6 @@
 use Rattle.std.proofs.Common.{◌≡◌, ◌++◌, drop, map}
 use Rattle.act1_blif.specs.Names.{signal_name}
-use Rattle.act1_flow.specs.File.{ports_from, output_names}
+use Rattle.act1_flow.specs.FileSteps.{ports_from, output_names}
 use Rattle.act1_flow.proofs.file.output_ports.Given as goal
 
 -- the outputs to come decide

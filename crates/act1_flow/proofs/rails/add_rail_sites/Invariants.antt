@@ -1,5 +1,5 @@
 use Rattle.std.proofs.Common.{◌≡◌, ◌++◌, drop}
-use Rattle.act1_flow.specs.Rails.{rail_sites}
+use Rattle.act1_flow.specs.RailSteps.{rail_sites}
 use Rattle.act1_flow.proofs.rails.add_rail_sites.Given as goal
 
 -- the pads to come decide

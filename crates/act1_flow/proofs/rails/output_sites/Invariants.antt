@@ -1,5 +1,5 @@
 use Rattle.std.proofs.Common.{◌≡◌}
-use Rattle.act1_flow.specs.Rails.{sites_below}
+use Rattle.act1_flow.specs.RailSteps.{sites_below}
 use Rattle.act1_flow.proofs.rails.output_sites.Given as goal
 
 -- the channels so far have their antifuses

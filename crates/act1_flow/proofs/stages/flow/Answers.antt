@@ -9,4 +9,4 @@ returns c =
     let dev = c.args.device.now in
     let enough : pads_needed net ≤ length dev.pads = omega arith in
     let outputs : length net.outputs ≤ length dev.pads = omega arith in
-    (enough, rw c.in_ok-fuses.ensures (realizes dev net c.requires outputs))
+    (enough, rw c.in_ok-fuses.ensures (realizes dev net c.requires outputs c.constants_mean.ensures))

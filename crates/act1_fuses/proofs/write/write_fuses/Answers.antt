@@ -6,7 +6,7 @@ returns c =
     text_of_file c.args.file.now _ _ _ _ _ _ _ _ _
     c.new-text.ensures.items
     c.in_ok-extend_from_slice.ensures.items
-    c.in_ok-write_name.ensures
+    c.in_ok-write_device.ensures
     c.in_ok-write_clock.ensures
     (rw c.as_slice.ensures at c.in_ok-write_ports.ensures)
     (rw c.as_slice-2.ensures at c.in_ok-write_ports-2.ensures)

@@ -1,6 +1,6 @@
 use Rattle.std.proofs.Common.{subst, sym}
 use Rattle.act1_match.specs.Matches.{Matches}
-use Rattle.act1_match.specs.Search.{ArePins}
+use Rattle.act1_match.specs.SearchSteps.{ArePins}
 use Rattle.act1_match.proofs.Choices.{choices_of}
 use Rattle.act1_match.proofs.Modules.{pins_match, no_match}
 use Rattle.act1_match.proofs.Steps.{finds_none}

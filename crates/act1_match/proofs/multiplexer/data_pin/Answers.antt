@@ -1,7 +1,7 @@
 use Rattle.std.proofs.lemmas.Bool.{iff_false}
 use Rattle.std.proofs.lemmas.List.Elements.{All-more}
 use Rattle.act1_match.specs.Choice.{value_at}
-use Rattle.act1_match.specs.Search.{Agrees}
+use Rattle.act1_match.specs.SearchSteps.{Agrees}
 use Rattle.act1_match.proofs.Parts.{none_listed}
 use Rattle.act1_match.proofs.multiplexer.data_pin.Goals as goal
 

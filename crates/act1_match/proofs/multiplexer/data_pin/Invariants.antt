@@ -1,5 +1,5 @@
 use Rattle.std.proofs.Common.{All, take}
-use Rattle.act1_match.specs.Search.{Agrees}
+use Rattle.act1_match.specs.SearchSteps.{Agrees}
 use Rattle.act1_match.specs.Choice.{value_at}
 use Rattle.act1_match.proofs.multiplexer.data_pin.Given as goal
 

@@ -1,6 +1,6 @@
 use Rattle.std.proofs.Common.{refl, ◌≡◌}
 use Rattle.std.proofs.lemmas.List.Elements.{All-more}
-use Rattle.act1_match.specs.Search.{IsMultiplexer}
+use Rattle.act1_match.specs.SearchSteps.{IsMultiplexer}
 use Rattle.act1_match.specs.declared.pins.Multiplexer.{Multiplexer}
 use Rattle.act1_match.proofs.Parts.{none_listed}
 use Rattle.act1_match.proofs.multiplexer.multiplexer.Goals as goal

@@ -1,5 +1,5 @@
 use Rattle.std.proofs.Common.{All, take, ◌≡◌}
-use Rattle.act1_match.specs.Search.{IsMultiplexer}
+use Rattle.act1_match.specs.SearchSteps.{IsMultiplexer}
 use Rattle.act1_match.specs.declared.pins.Multiplexer.{Multiplexer}
 use Rattle.act1_match.proofs.multiplexer.multiplexer.Given as goal
 

@@ -1,5 +1,5 @@
 use Rattle.std.proofs.Common.{refl, arith, ◌<◌, ◌^◌, ◌≡◌}
-use Rattle.act1_match.specs.Search.{IsMultiplexer}
+use Rattle.act1_match.specs.SearchSteps.{IsMultiplexer}
 use Rattle.act1_match.proofs.Steps.{finds_none, multiplexer_found, no_low, no_high}
 use Rattle.act1_match.proofs.multiplexer.with_select.Goals as goal
 

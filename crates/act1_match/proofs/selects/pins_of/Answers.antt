@@ -1,6 +1,6 @@
 use Rattle.std.proofs.Common.{refl, ◌≡◌}
 use Rattle.std.proofs.lemmas.List.Elements.{All-more}
-use Rattle.act1_match.specs.Search.{ArePins}
+use Rattle.act1_match.specs.SearchSteps.{ArePins}
 use Rattle.act1_match.specs.declared.pins.Pins.{Pins}
 use Rattle.act1_match.proofs.Parts.{none_listed}
 use Rattle.act1_match.proofs.selects.pins_of.Goals as goal

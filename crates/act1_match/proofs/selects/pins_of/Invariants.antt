@@ -1,5 +1,5 @@
 use Rattle.std.proofs.Common.{All, take, ◌≡◌}
-use Rattle.act1_match.specs.Search.{ArePins}
+use Rattle.act1_match.specs.SearchSteps.{ArePins}
 use Rattle.act1_match.specs.declared.pins.Pins.{Pins}
 use Rattle.act1_match.proofs.selects.pins_of.Given as goal
 

@@ -1,5 +1,5 @@
 use Rattle.std.proofs.Common.{refl, arith, ◌<◌, ◌^◌, ◌≡◌}
-use Rattle.act1_match.specs.Search.{ArePins}
+use Rattle.act1_match.specs.SearchSteps.{ArePins}
 use Rattle.act1_match.proofs.Steps.{finds_none, pins_found, no_a, no_b}
 use Rattle.act1_match.proofs.selects.with_both.Goals as goal
 

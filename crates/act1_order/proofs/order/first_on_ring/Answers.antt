@@ -1,6 +1,6 @@
 use Rattle.std.proofs.Common.{ℕ, ◌≡◌, ◌<◌, ◌+◌, ◌-◌, length, get_or, Option, arith, sym, subst}
 use Rattle.std.proofs.lemmas.Option.{slice_get-get_or}
-use Rattle.act1_order.specs.Reach.{IsLeastFrom}
+use Rattle.act1_order.specs.ReachSteps.{IsLeastFrom}
 use Rattle.act1_order.proofs.ClosingLemmas.{least_on, least_is}
 use Rattle.act1_order.proofs.order.first_on_ring.Goals as goal
 

@@ -1,5 +1,5 @@
 use Rattle.std.proofs.Common.{◌≤◌, length}
-use Rattle.act1_order.specs.Reach.{AreMarkedFrom, IsLeastFrom}
+use Rattle.act1_order.specs.ReachSteps.{AreMarkedFrom, IsLeastFrom}
 use Rattle.act1_order.proofs.order.first_on_ring.Given as goal
 
 -- the vertices from this place on were looked at

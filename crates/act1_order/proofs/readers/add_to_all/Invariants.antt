@@ -1,5 +1,5 @@
 use Rattle.std.proofs.Common.{take}
-use Rattle.act1_order.specs.Readers.{Adds}
+use Rattle.act1_order.specs.ReadersSteps.{Adds}
 use Rattle.act1_order.proofs.readers.add_to_all.Given as goal
 
 -- the first vertices have one more reader

@@ -1,4 +1,4 @@
-use Rattle.act1_order.specs.Readers.{HasNone}
+use Rattle.act1_order.specs.ReadersSteps.{HasNone}
 use Rattle.act1_order.proofs.readers.no_readers.Given as goal
 
 abbrev pub invariant-loop-vertex : goal.invariant-loop-vertex

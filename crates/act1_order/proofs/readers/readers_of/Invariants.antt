@@ -1,4 +1,4 @@
-use Rattle.act1_order.specs.Readers.{AreReadersBelow}
+use Rattle.act1_order.specs.ReadersSteps.{AreReadersBelow}
 use Rattle.act1_order.proofs.readers.readers_of.Given as goal
 
 -- the readers among the vertices so far are gathered

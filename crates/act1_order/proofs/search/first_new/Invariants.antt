@@ -1,6 +1,6 @@
 use Rattle.std.proofs.Common.{ℕ, ◌≡◌, ◌<◌, ◌-◌, length, Some}
 use Rattle.std.specs.Prelude.{slice_get}
-use Rattle.act1_order.specs.Search.{HasState}
+use Rattle.act1_order.specs.SearchSteps.{HasState}
 use Rattle.act1_order.specs.declared.search.State.TheVariants as state
 use Rattle.act1_order.proofs.search.first_new.Given as goal
 

@@ -1,5 +1,5 @@
 use Rattle.std.proofs.Common.{List, ℕ, length, refl, sym, subst, arith}
-use Rattle.act1_order.specs.Closing.{IsClosingOrder}
+use Rattle.act1_order.specs.ClosingSteps.{IsClosingOrder}
 use Rattle.act1_order.proofs.SearchLemmas.{none_placed, all_placed}
 use Rattle.act1_order.proofs.search.order_of.Goals as goal
 

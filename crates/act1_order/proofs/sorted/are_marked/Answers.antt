@@ -1,7 +1,7 @@
 use Rattle.std.proofs.Common.{ℕ, ◌≡◌, ◌⊎◌, List, Bool, Option, Some, get_or, take, refl, sym, ap, subst, ◌∙◌, inl, inr}
 use Rattle.std.specs.Prelude.{Contains}
 use Rattle.std.proofs.lemmas.List.{take_all, take_more}
-use Rattle.act1_order.specs.Reach.{IsMarked}
+use Rattle.act1_order.specs.ReachSteps.{IsMarked}
 use Rattle.act1_order.proofs.ReachLemmas.{contains_cases}
 use Rattle.act1_order.proofs.sorted.are_marked.Goals as goal
 

@@ -1,6 +1,6 @@
 use Rattle.std.proofs.Common.{ℕ, take}
 use Rattle.std.specs.Prelude.{Contains}
-use Rattle.act1_order.specs.Reach.{IsMarked}
+use Rattle.act1_order.specs.ReachSteps.{IsMarked}
 use Rattle.act1_order.proofs.sorted.are_marked.Given as goal
 
 -- the first vertices are marked

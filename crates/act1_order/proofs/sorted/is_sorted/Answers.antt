@@ -2,7 +2,7 @@ use Rattle.std.proofs.Common.{ℕ, ◌+◌, List, Bool, true, get_or, arith, ref
 use Rattle.std.specs.Prelude.{Contains, slice_set}
 use Rattle.std.proofs.lemmas.Bool.{true≢false}
 use Rattle.std.proofs.lemmas.Option.{slice_get-get_or}
-use Rattle.act1_order.specs.Reach.{IsMarked}
+use Rattle.act1_order.specs.ReachSteps.{IsMarked}
 use Rattle.act1_order.proofs.SortedLemmas.{IsSortedTo, sorted_more, sorted_all, reads_marked}
 use Rattle.act1_order.proofs.sorted.is_sorted.Goals as goal
 

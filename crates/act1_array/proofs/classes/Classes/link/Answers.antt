@@ -1,5 +1,5 @@
 use Rattle.act1_base.proofs.LinkAdded.{with_link}
-use Rattle.act1_array.specs.Classes.{AreClasses, IsMerged}
+use Rattle.act1_array.specs.ClassSteps.{AreClasses, IsMerged}
 use Rattle.act1_base.proofs.ListGets.{on_ok}
 use Rattle.act1_array.proofs.ClassLemmas.{linked_in}
 use Rattle.act1_array.proofs.classes.Classes.link.Goals as goal

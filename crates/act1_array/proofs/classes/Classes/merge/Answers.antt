@@ -1,5 +1,5 @@
 use Rattle.std.proofs.Common.{ℕ, List, [], ◌≡◌, ◌<◌, ◌++◌, length, slice_index_or, All, sym, ap, subst, ◌∙◌}
-use Rattle.act1_array.specs.Classes.{AreMembers, marked}
+use Rattle.act1_array.specs.ClassSteps.{AreMembers, marked}
 use Rattle.act1_array.proofs.ClassLemmas.{members_low, marked_is, members_merged, merged_members, is_merged_members}
 use Rattle.act1_array.proofs.classes.Classes.merge.Goals as goal
 

@@ -3,7 +3,7 @@ use Rattle.act1_device.specs.declared.device.Site.TheVariants.{Along}
 use Rattle.act1_device.specs.declared.device.Wire.{Wire}
 use Rattle.act1_base.proofs.LinkAdded.{with_link}
 use Rattle.act1_fuses.specs.Wires.{links_of}
-use Rattle.act1_array.specs.Classes.{AreClasses}
+use Rattle.act1_array.specs.ClassSteps.{AreClasses}
 use Rattle.act1_array.proofs.ClassLemmas.{links_more}
 use Rattle.act1_array.proofs.classes.Classes.of_sites.Goals as goal
 

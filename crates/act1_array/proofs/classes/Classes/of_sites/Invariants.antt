@@ -1,6 +1,6 @@
 use Rattle.std.proofs.Common.{take}
 use Rattle.act1_fuses.specs.Wires.{links_of}
-use Rattle.act1_array.specs.Classes.{AreClasses, IsWhole}
+use Rattle.act1_array.specs.ClassSteps.{AreClasses, IsWhole}
 use Rattle.act1_array.proofs.classes.Classes.of_sites.Given as goal
 
 -- the classes are those of the sites so far

@@ -1,6 +1,6 @@
 use Rattle.std.proofs.Common.{Option, sym, subst}
 use Rattle.act1_array.specs.declared.owners.Pair.{Pair}
-use Rattle.act1_array.specs.Network.{GivesPair}
+use Rattle.act1_array.specs.NetworkSteps.{GivesPair}
 use Rattle.act1_array.proofs.NetworkLemmas.{gives_pair}
 use Rattle.act1_array.proofs.network.Network.driven_pair.Goals as goal
 

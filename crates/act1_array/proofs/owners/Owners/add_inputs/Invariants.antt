@@ -1,6 +1,6 @@
 use Rattle.std.proofs.Common.{◌≡◌, ◌≤◌, ◌+◌, List, length}
 use Rattle.act1_circuit.specs.declared.circuit.Spot.{Spot}
-use Rattle.act1_array.specs.Owners.{AreOwners}
+use Rattle.act1_array.specs.OwnerSteps.{AreOwners}
 use Rattle.act1_array.proofs.owners.Owners.add_inputs.Given as goal
 
 -- the inputs from this one on have been looked at

@@ -1,6 +1,6 @@
 use Rattle.std.proofs.Common.{◌≡◌, ◌≤◌, ◌+◌, length}
 use Rattle.act1_fuses.specs.declared.fuses.FuseFile.{FuseFile}
-use Rattle.act1_array.specs.Owners.{AreOwners}
+use Rattle.act1_array.specs.OwnerSteps.{AreOwners}
 use Rattle.act1_array.proofs.owners.Owners.add_modules.Given as goal
 
 -- the modules from this one on have been looked at

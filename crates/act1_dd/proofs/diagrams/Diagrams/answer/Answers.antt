@@ -2,7 +2,7 @@ use Rattle.std.proofs.Common.{List, sym, subst, ◌∙◌}
 use Rattle.std.specs.Prelude.{IfSome, Option}
 use Rattle.act1_dd.specs.declared.refs.Branch.{Branch}
 use Rattle.act1_dd.specs.declared.refs.Ref.{Ref}
-use Rattle.act1_dd.specs.Answers.{IsAnswer}
+use Rattle.act1_dd.specs.MemoSteps.{IsAnswer}
 use Rattle.act1_dd.proofs.Memo.{answer_found}
 use Rattle.act1_dd.proofs.diagrams.Diagrams.answer.Goals as goal
 

@@ -1,7 +1,7 @@
 use Rattle.std.proofs.Common.{List, ◌≢◌, ◌+◌, sym, subst, rules}
 use Rattle.act1_dd.specs.declared.refs.Branch.{Branch}
 use Rattle.act1_dd.specs.Diagram.{IsReduced, IsRef, IsFrom, Keeps}
-use Rattle.act1_dd.proofs.Gets.{get_within}
+use Rattle.act1_base.proofs.ListGets.{get_within}
 use Rattle.act1_dd.proofs.Canonical.{from_own}
 use Rattle.act1_dd.proofs.Memo.{answers_kept}
 use Rattle.act1_dd.proofs.Growing.{branch_of, numbered}

@@ -2,7 +2,7 @@ use Rattle.std.proofs.Common.{ℕ, ◌≡◌, ◌<◌, ◌≤◌, ◌⊎◌, ◌
 use Rattle.std.specs.Prelude.{slice_get, Some, None}
 use Rattle.std.proofs.lemmas.Bool.{cases_lt}
 use Rattle.act1_dd.specs.Steps.{with_found}
-use Rattle.act1_dd.proofs.Gets.{get_in, get_within}
+use Rattle.act1_base.proofs.ListGets.{get_in, get_within}
 use Rattle.act1_dd.proofs.ForkCounts.{walk_is_more, walk_is_all}
 use Rattle.act1_dd.proofs.Walks.{IsWalk, walk_begins, walk_goes_on}
 use Rattle.act1_dd.proofs.diagrams.Diagrams.has_more_than.Goals as goal

@@ -1,6 +1,6 @@
 use Rattle.std.proofs.Common.{List, sym, subst}
 use Rattle.act1_dd.specs.declared.refs.Branch.{Branch}
-use Rattle.act1_dd.specs.Answers.{IsAnswer}
+use Rattle.act1_dd.specs.MemoSteps.{IsAnswer}
 use Rattle.act1_dd.proofs.Memo.{answers_with}
 use Rattle.act1_dd.proofs.diagrams.Diagrams.note.Goals as goal
 

@@ -1,7 +1,7 @@
 use Rattle.std.proofs.Common.{ℕ, List, get_or, arith, refl, sym, subst}
 use Rattle.std.proofs.lemmas.Grind.{common_steps}
 use Rattle.std.proofs.lemmas.Option.{slice_get-get_or}
-use Rattle.act1_order.specs.Reach.{HasMarked, Marks}
+use Rattle.act1_order.specs.ReachSteps.{HasMarked, Marks}
 use Rattle.act1_order.specs.declared.reach.Reached.{Reached}
 use Rattle.act1_order.proofs.ReachLemmas.{reach_start, reach_step, reach_done, left_low, ring_marks, marks_ring}
 use Rattle.act1_order.proofs.ReadersLemmas.{readers_inside}

@@ -1,5 +1,5 @@
 use Rattle.std.proofs.Common.{◌+◌, length}
-use Rattle.act1_order.specs.Reach.{AreReached, unmarked}
+use Rattle.act1_order.specs.ReachSteps.{AreReached, unmarked}
 use Rattle.act1_order.proofs.reach.Reached.is_on_ring.Given as goal
 
 abbrev pub invariant-loop-next : goal.invariant-loop-next

@@ -1,5 +1,5 @@
 use Rattle.std.proofs.Common.{take}
-use Rattle.act1_order.specs.Reach.{Marks}
+use Rattle.act1_order.specs.ReachSteps.{Marks}
 use Rattle.act1_order.proofs.reach.Reached.mark_all.Given as goal
 
 -- the first vertices are marked

@@ -1,6 +1,6 @@
 use Rattle.std.proofs.Common.{ℕ, ◌≡◌, ◌<◌, List, length, Some, ap, sym, subst, ◌∙◌, arith}
 use Rattle.std.specs.Prelude.{slice_get, All}
-use Rattle.act1_order.specs.Search.{HasState}
+use Rattle.act1_order.specs.SearchSteps.{HasState}
 use Rattle.act1_order.specs.declared.search.State.{State}
 use Rattle.act1_order.specs.declared.search.State.TheVariants as state
 use Rattle.act1_order.proofs.SearchLemmas.{passed_read, next_is}

@@ -1,6 +1,6 @@
 use Rattle.std.proofs.Common.{List, sym, subst, ◌∙◌}
 use Rattle.std.proofs.lemmas.Bool.{true≢false}
-use Rattle.act1_order.specs.Search.{HasState}
+use Rattle.act1_order.specs.SearchSteps.{HasState}
 use Rattle.act1_order.specs.declared.search.State.{State}
 use Rattle.act1_order.specs.declared.search.State.TheVariants as state
 use Rattle.act1_order.proofs.SearchLemmas.{rooted, visited}

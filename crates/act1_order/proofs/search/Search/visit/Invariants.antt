@@ -1,4 +1,4 @@
-use Rattle.act1_order.specs.Search.{steps_left}
+use Rattle.act1_order.specs.SearchSteps.{steps_left}
 use Rattle.act1_order.proofs.SearchLemmas.{IsRooted}
 use Rattle.act1_order.proofs.search.Search.visit.Given as goal
 

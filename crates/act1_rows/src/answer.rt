@@ -1,0 +1,93 @@
+use crate::fault::Fault;
+use crate::setting::Setting;
+use act1_outside::{MemoryFiles, MemorySink, NoHelpers};
+use act1_top::run;
+use std::alloc::Global;
+use std::collections::BTreeSet;
+
+/// A file that a run has changed or made.
+#[derive(Drop)]
+pub struct ChangedFile {
+    /// Its name.
+    pub name: String,
+    /// What it holds, or `None` where it isn't there any more.
+    pub bytes: Option<Vec<u8>>,
+}
+
+/// What a run answers, prints and writes.
+#[derive(Drop)]
+pub struct Answer {
+    /// The status.
+    pub status: u8,
+    /// What was printed.
+    pub printed: Vec<u8>,
+    /// The files that changed, by their names.
+    pub changed: Vec<ChangedFile>,
+}
+
+// The files of a setting.
+fn files_of(alloc: Global, setting: &Setting) -> Result<MemoryFiles, Fault> {
+    let mut files = MemoryFiles::new(alloc);
+    for (name, bytes) in &setting.files {
+        files.set(name.as_str(), bytes.as_slice())?;
+    }
+    for call in &setting.failing_files {
+        files.fail(*call)?;
+    }
+    Ok(files)
+}
+
+// The names that a run may have changed: those of the files, and the words.
+fn names_of(alloc: Global, setting: &Setting) -> Result<BTreeSet<String>, Fault> {
+    let mut names = BTreeSet::new(alloc);
+    for name in setting.files.keys() {
+        names.insert(name.clone()?)?;
+    }
+    for word in &setting.words {
+        names.insert(word.clone()?)?;
+    }
+    Ok(names)
+}
+
+// The files that aren't as they were.
+fn changed(
+    alloc: Global,
+    setting: &Setting,
+    files: &MemoryFiles,
+) -> Result<Vec<ChangedFile>, Fault> {
+    let mut changed = Vec::new(alloc);
+    let names = names_of(alloc, setting)?;
+    for name in &names {
+        let before = setting
+            .files
+            .get(name.as_str())
+            .map(|bytes| bytes.as_slice());
+        let after = files.held(name.as_str());
+        if before == after {
+            continue;
+        }
+        let bytes = match after {
+            Some(bytes) => Some(Vec::from_slice(alloc, bytes)?),
+            None => None,
+        };
+        let name = name.clone()?;
+        changed.push(ChangedFile { name, bytes })?;
+    }
+    Ok(changed)
+}
+
+/// Runs the words of a setting on its files. The error is want of memory.
+pub fn answer_of(alloc: Global, setting: &Setting) -> Result<Answer, Fault> {
+    let mut files = files_of(alloc, setting)?;
+    let mut out = MemorySink::new(alloc);
+    for call in &setting.failing_prints {
+        out.fail(*call)?;
+    }
+    let mut helpers = NoHelpers::new();
+    let status = run(alloc, &setting.words, &mut files, &mut out, &mut helpers);
+    Ok(Answer {
+        status,
+        printed: Vec::from_slice(alloc, out.bytes())?,
+        changed: changed(alloc, setting, &files)?,
+    })
+}

@@ -1,0 +1,26 @@
+-- What words that are no command owe.
+use Rattle.std.proofs.Common.{ℕ, ◌≡◌, List, [], Some, refl, sym, subst, ◌∙◌, arith}
+use Rattle.act1_outside.specs.Outside.{Shelf}
+use Rattle.act1_frame.specs.declared.ending.Ending.{Ending}
+use Rattle.act1_frame.proofs.Fine.{IsFine, status_of_text}
+use Rattle.act1_frame.proofs.Runs.{IsLawful}
+use Rattle.act1_top.specs.declared.command.Command.{Command}
+use Rattle.act1_top.specs.declared.command.Command.TheVariants.{Unknown}
+use Rattle.act1_top.specs.Run.{reads_of, writes_of, writes_at, usage_ending, MayEnd}
+
+usage_fine : (before after : Shelf) → IsFine (Unknown ≡ Unknown) (reads_of Unknown) (writes_at Unknown) before after usage_ending
+usage_fine before after = record {
+  words = λ n. refl;
+  three = λ n. absurd (omega (arith, n));
+  read = λ n. absurd (omega (arith, n));
+  long = λ n. absurd (omega (arith, n));
+  file = λ f n. cc;
+}
+
+pub usage_lawful : IsLawful (Unknown ≡ Unknown) (reads_of Unknown) (writes_of Unknown) (writes_at Unknown) (MayEnd Unknown)
+usage_lawful = record {
+  fine = λ before after e h. subst (λ (p : Ending). IsFine (Unknown ≡ Unknown) (reads_of Unknown) (writes_at Unknown) before after p) (sym h) (usage_fine before after);
+  later = λ before mid after same e h. h;
+  one = λ before after told no_fault e p h k. status_of_text 1 usage_ending.text e h ∙ sym (status_of_text 1 usage_ending.text p k);
+  named = λ status name h. h;
+}
