@@ -6,6 +6,8 @@ use Rattle.std.proofs.lemmas.Option.{get_or_from_slice_get}
 use Rattle.act1_base.specs.Joined.{Leads, Joined}
 use Rattle.act1_base.specs.Rising.{Rises}
 use Rattle.act1_base.proofs.Paths.{joined_back}
+use Rattle.act1_base.proofs.RisingLists as rising
+use Rattle.act1_base.proofs.RisingLists.{pair_itself, pair_on}
 use Rattle.act1_device.specs.declared.device.Device.{Device}
 use Rattle.act1_device.specs.declared.device.Wire.{Wire}
 use Rattle.act1_device.specs.declared.device.Wire.TheVariants as wire
@@ -51,59 +53,40 @@ module _ {V : Type 0} (links : List (V × V)) (wires : List V) (classes : List �
       let same : q.0 ≡ p.0 = sym (h.apart a b p.0 q.0 p.1 q.1 j) in
       (p.0, p.1, subst (λ (d : ℕ). HasClass wires classes b d) same q.1)
 
-before_itself : (s : Spot) → ¬ SpotIsBefore s s
-before_itself s (inl h) = absurd (omega (arith, h))
-before_itself s (inr h) = absurd (omega (arith, h.1))
+never_itself : (s : Spot) → SpotIsBefore s s → ⊥
+never_itself s = pair_itself s.row s.column
 
-before_on : (a b c : Spot) → SpotIsBefore a b → SpotIsBefore b c → SpotIsBefore a c
-before_on a b c (inl h) (inl k) = inl (omega arith)
-before_on a b c (inl h) (inr k) = let e = k.0 in inl (omega arith)
-before_on a b c (inr h) (inl k) = let e = h.0 in inl (omega arith)
-before_on a b c (inr h) (inr k) = let e = h.1 in let f = k.1 in inr (h.0 ∙ k.0, omega arith)
-
-tail_rises : (x : Spot) (xs : List Spot) → Rises SpotIsBefore (x ∷ xs) → Rises SpotIsBefore xs
-tail_rises x [] h = tt
-tail_rises x (y ∷ xs) h = h.1
+in_turn : (a b c : Spot) → SpotIsBefore a b → SpotIsBefore b c → SpotIsBefore a c
+in_turn a b c = pair_on a.row a.column b.row b.column c.row c.column
 
 -- a spot that stands later in a list that rises is after
 pub after_first : (x : Spot) (xs : List Spot) → Rises SpotIsBefore (x ∷ xs) → (j : ℕ) (y : Spot) → slice_get xs j ≡ Some y → SpotIsBefore x y
-after_first x [] h j y e = cc
-after_first x (z ∷ xs) h zero y e = subst (λ (s : Spot). SpotIsBefore x s) (some_is z y e) h.0
-after_first x (z ∷ xs) h (suc j) y e = before_on x z y h.0 (after_first z xs h.1 j y e)
+after_first = rising.after_first SpotIsBefore never_itself in_turn
 
 -- a spot stands at one place of a list that rises
 pub same_place : (xs : List Spot) → Rises SpotIsBefore xs → (m n : ℕ) (s : Spot) → slice_get xs m ≡ Some s → slice_get xs n ≡ Some s → m ≡ n
-same_place [] h m n s e f = cc
-same_place (x ∷ xs) h zero zero s e f = refl
-same_place (x ∷ xs) h zero (suc n) s e f = absurd (before_itself s (subst (λ (t : Spot). SpotIsBefore t s) (some_is x s e) (after_first x xs h n s f)))
-same_place (x ∷ xs) h (suc m) zero s e f = absurd (before_itself s (subst (λ (t : Spot). SpotIsBefore t s) (some_is x s f) (after_first x xs h m s e)))
-same_place (x ∷ xs) h (suc m) (suc n) s e f = ap suc (same_place xs (tail_rises x xs h) m n s e f)
+same_place = rising.same_place SpotIsBefore never_itself in_turn
 
 -- the spots of two places of a list that rises stand in the order of the places
 pub places_rise : (xs : List Spot) → Rises SpotIsBefore xs → (m n : ℕ) (s t : Spot) → slice_get xs m ≡ Some s → slice_get xs n ≡ Some t → m < n → SpotIsBefore s t
-places_rise [] h m n s t e f low = cc
-places_rise (x ∷ xs) h zero zero s t e f low = absurd (omega arith)
-places_rise (x ∷ xs) h zero (suc n) s t e f low = subst (λ (u : Spot). SpotIsBefore u t) (some_is x s e) (after_first x xs h n t f)
-places_rise (x ∷ xs) h (suc m) zero s t e f low = absurd (omega arith)
-places_rise (x ∷ xs) h (suc m) (suc n) s t e f low = places_rise xs (tail_rises x xs h) m n s t e f (omega arith)
+places_rise = rising.places_rise SpotIsBefore never_itself in_turn
 
 pub not_both : (s t : Spot) → SpotIsBefore s t → SpotIsBefore t s → ⊥
-not_both s t h k = before_itself s (before_on s t s h k)
+not_both s t h k = never_itself s (in_turn s t s h k)
 
 pads_equal : (p q : ℕ) → pad_wire p ≡ pad_wire q → p ≡ q
 pads_equal p q e = cc
 
-rows_equal : (s t : Spot) → out_wire s ≡ out_wire t → s.row ≡ t.row
-rows_equal s t e = cc
-
-columns_equal : (s t : Spot) → out_wire s ≡ out_wire t → s.column ≡ t.column
-columns_equal s t e = cc
-
 abbrev spot_at : ℕ → ℕ → Spot
 spot_at row column = record { row = row; column = column }
 
+-- the spot of an output's wire
+abbrev spot_of : Wire → Spot
+spot_of (wire.Vertical (line.Out row column)) = spot_at row column
+spot_of w = spot_at 0 0
+
 spots_equal : (s t : Spot) → out_wire s ≡ out_wire t → s ≡ t
-spots_equal s t e = ap (λ (r : ℕ). spot_at r s.column) (rows_equal s t e) ∙ ap (λ (c : ℕ). spot_at t.row c) (columns_equal s t e)
+spots_equal s t e = ap spot_of e
 
 module _ (f : FuseFile) (once : AllPairs (λ (a b : Port). a.pad ≢ b.pad) f.ins) where
   below : (i j : ℕ) (p q : Port) → slice_get f.ins i ≡ Some p → slice_get f.ins j ≡ Some q → p.pad ≡ q.pad → ¬ (i < j)

@@ -5,8 +5,8 @@ pub mod ListGets
 pub mod NumberWords
 pub mod Paths
 pub mod Pigeonhole
-pub mod Samples
 pub mod Spelling
+pub mod RisingLists
 pub mod SplitLoops
 pub mod TextGrows
 pub mod TextLaws

@@ -1,4 +1,4 @@
--- The first faulty line of a text, in the words of the texts alone. What the texts of a format are is any property of bytes; a line is what a line feed ends.
+-- The first faulty line of a text, in the words of the texts alone. What the texts of a format are is any property of bytes that some bytes have, each of which ends with a line feed; a line is what a line feed ends.
 use Rattle.std.specs.Prelude.{ℕ, ◌≡◌, ◌≢◌, ◌+◌, ◌⊎◌, ◌↔◌, List, [], ◌∷◌, ◌++◌, length, Result, Ok, Err, IsOk}
 use Rattle.std.specs.List.{flat_map, AllByRecursion}
 use Rattle.act1_base.specs.declared.texts.Stop.{Stop}

@@ -146,9 +146,10 @@ fn read_pieces<F: Format>(
     at_end(format, state, number, rest)
 }
 
-/// The state that the lines of a text leave, or its first faulty line: the first that lacks its line
+/// The state that the lines of a text leave, or its first fault by the format's rules. Where these are
+/// the rules of the format's texts (`IsFormatOf`), the fault's line is the first that lacks its line
 /// feed, or with which the lines up to it begin no text of the format, or the line after the last
-/// where the text is cut. What is wrong with it is what the format's rules say first.
+/// where the text is cut.
 pub fn read_text<F: Format>(
     alloc: Global,
     format: &F,

@@ -26,4 +26,3 @@ pub mod StatementLists
 pub mod StatementRules
 pub mod TextLaws
 pub mod TwiceLines
-pub mod WholeSamples

@@ -10,7 +10,6 @@ pub mod Numbering
 pub mod OneReadings
 pub mod PlaceLemmas
 pub mod PlainTexts
-pub mod Samples
 pub mod SomeReading
 pub mod TakesForm
 pub mod TakesRow

@@ -7,6 +7,5 @@ pub mod Memo
 pub mod Parts
 pub mod Restrictions
 pub mod Rows
-pub mod Samples
 pub mod Values
 pub mod Walks

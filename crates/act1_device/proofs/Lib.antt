@@ -1,3 +1,2 @@
 pub mod Breaks
 pub mod Pads
-pub mod Samples

@@ -16,13 +16,8 @@ pub mod ReadPorts
 pub mod ReadSites
 pub mod ReadStates
 pub mod ReadWhole
-pub mod Ring
-pub mod Samples
 pub mod Searches
 pub mod SiteTests
-pub mod Spoilt
 pub mod TextLines
-pub mod Texts
 pub mod Unique
-pub mod Unsound
 pub mod Written

@@ -4,6 +4,8 @@ use Rattle.std.specs.Prelude.{Contains, slice_get, slice_index_or, ◌⊎◌, �
 use Rattle.std.proofs.lemmas.List.Elements.{All-contains}
 use Rattle.act1_base.specs.Joined.{Linked, Leads, Joined}
 use Rattle.act1_base.specs.Rising.{Rises}
+use Rattle.act1_base.proofs.RisingLists as rising
+use Rattle.act1_base.proofs.RisingLists.{pair_itself, pair_on}
 use Rattle.act1_device.specs.declared.device.Device.{Device}
 use Rattle.act1_device.specs.declared.device.Wire.{Wire}
 use Rattle.act1_device.specs.declared.device.Wire.TheVariants as wire
@@ -41,35 +43,24 @@ module _ {V : Type 0} (links : List (V × V)) where
   pub joined_back : (a b : V) → Joined links a b → Joined links b a
   joined_back a b h = leads_back a h.path b h.leads
 
-before_itself : (s : Spot) → ¬ SpotIsBefore s s
-before_itself s (inl h) = absurd (omega (arith, h))
-before_itself s (inr h) = absurd (omega (arith, h.1))
+before_itself : (s : Spot) → SpotIsBefore s s → ⊥
+before_itself s = pair_itself s.row s.column
 
 before_on : (a b c : Spot) → SpotIsBefore a b → SpotIsBefore b c → SpotIsBefore a c
-before_on a b c (inl h) (inl k) = inl (omega arith)
-before_on a b c (inl h) (inr k) = let e = k.0 in inl (omega arith)
-before_on a b c (inr h) (inl k) = let e = h.0 in inl (omega arith)
-before_on a b c (inr h) (inr k) = let e = h.1 in let f = k.1 in inr (h.0 ∙ k.0, omega arith)
+before_on a b c = pair_on a.row a.column b.row b.column c.row c.column
 
 some : {X : Type 0} (x y : X) → Some x ≡ Some y → x ≡ y
 some x y h = cc
 
 tail_rises : (x : Spot) (xs : List Spot) → Rises SpotIsBefore (x ∷ xs) → Rises SpotIsBefore xs
-tail_rises x [] h = tt
-tail_rises x (y ∷ xs) h = h.1
+tail_rises = rising.tail_rises SpotIsBefore before_itself before_on
 
 after_first : (x : Spot) (xs : List Spot) → Rises SpotIsBefore (x ∷ xs) → (j : ℕ) (y : Spot) → slice_get xs j ≡ Some y → SpotIsBefore x y
-after_first x [] h j y e = cc
-after_first x (z ∷ xs) h zero y e = subst (λ (s : Spot). SpotIsBefore x s) (some z y e) h.0
-after_first x (z ∷ xs) h (suc j) y e = before_on x z y h.0 (after_first z xs h.1 j y e)
+after_first = rising.after_first SpotIsBefore before_itself before_on
 
 -- a spot stands at one place of a list that rises
 same_place : (xs : List Spot) → Rises SpotIsBefore xs → (m n : ℕ) (s : Spot) → slice_get xs m ≡ Some s → slice_get xs n ≡ Some s → m ≡ n
-same_place [] h m n s e f = cc
-same_place (x ∷ xs) h zero zero s e f = refl
-same_place (x ∷ xs) h zero (suc n) s e f = absurd (before_itself s (subst (λ (t : Spot). SpotIsBefore t s) (some x s e) (after_first x xs h n s f)))
-same_place (x ∷ xs) h (suc m) zero s e f = absurd (before_itself s (subst (λ (t : Spot). SpotIsBefore t s) (some x s f) (after_first x xs h m s e)))
-same_place (x ∷ xs) h (suc m) (suc n) s e f = ap suc (same_place xs (tail_rises x xs h) m n s e f)
+same_place = rising.same_place SpotIsBefore before_itself before_on
 
 get_is_in : {X : Type 0} (xs : List X) (i : ℕ) (x : X) → slice_get xs i ≡ Some x → Contains xs x
 get_is_in [] i x e = cc

@@ -2,5 +2,4 @@ pub mod Bits
 pub mod Choices
 pub mod Modules
 pub mod Parts
-mod Samples
 pub mod Steps

@@ -28,10 +28,11 @@ SameHeld before after = IsTrue before.tells → (n : List ℕ) → after.held n 
 abbrev pub OthersHeld : List ℕ → Shelf → Shelf → Type 0
 OthersHeld name before after = IsTrue before.tells → (n : List ℕ) → n ≢ name → after.held n ≡ before.held n
 
--- no count of faults has changed
+-- no count has changed
 pub record SameFaults (before after : Shelf) : Type 0 where
   pub reads : (n : List ℕ) → after.read_faults n ≡ before.read_faults n
   pub writes : (n : List ℕ) → after.write_faults n ≡ before.write_faults n
+  pub memory : after.unwritten ≡ before.unwritten
 
 -- what a read may answer and leave: the content of the name, and no more bytes than were asked for
 pub record Reads (name : List ℕ) (most : ℕ) (before : Shelf) (result : Result (Vec ℕ Global) FileFault) (after : Shelf) : Type 0 where

@@ -47,7 +47,8 @@ impl<T: Drop> From<AllocFailed<T>> for FileFault {
 /// Files by their names.
 ///
 /// Each name has a count of failed reads and one of failed writes. They never fall, and a call
-/// raises none but that of its own kind and name. An object may tell what each name holds; if it
+/// raises none but that of its own kind and name. A write that finds no memory is counted too, in one
+/// count for all names, and no other call is. An object may tell what each name holds; if it
 /// does, it goes on telling.
 pub trait Files {
     ghost use Rattle.act1_outside.specs.Outside.{Shelf, Reads, Writes};

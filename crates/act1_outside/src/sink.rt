@@ -42,7 +42,8 @@ impl<T: Drop> From<AllocFailed<T>> for SinkFault {
 
 /// A place to print.
 ///
-/// It has a count of faults, which never falls. An object may tell the bytes that were printed; if
+/// It has a count of faults, which never falls, and one of puts that found no memory, which no other
+/// put raises. An object may tell the bytes that were printed; if
 /// it does, it goes on telling.
 pub trait Sink {
     ghost use Rattle.act1_outside.specs.Outside.{Paper, Puts};

@@ -3,5 +3,4 @@ pub mod FirstBits
 pub mod LineTexts
 pub mod OneAnswers
 pub mod OneStart
-pub mod Samples
 pub mod SimulationLaws

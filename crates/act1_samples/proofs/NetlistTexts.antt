@@ -7,7 +7,7 @@ use Rattle.act1_logic.specs.declared.cover.Mark.TheVariants.{Zero, One, Dash}
 use Rattle.act1_blif.specs.declared.blif.Blif.{Blif}
 use Rattle.act1_blif.specs.declared.blif.Node.{Node}
 use Rattle.act1_blif.specs.Text.{blif_text}
-use Rattle.act1_blif.proofs.Samples.{some, toggle, hold}
+use Rattle.act1_samples.proofs.Netlists.{some, toggle, hold}
 
 -- the canonical texts
 pub toggle_text : blif_text toggle ≡ codes ".model top\n.inputs\n.outputs q\n.latch d q 0\n.names q d\n0 1\n.end\n"

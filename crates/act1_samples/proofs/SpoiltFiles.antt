@@ -7,8 +7,8 @@ use Rattle.act1_device.specs.declared.device.Site.TheVariants.{Along, Cross}
 use Rattle.act1_fuses.specs.declared.fuses.Port.{Port}
 use Rattle.act1_fuses.specs.declared.fuses.StartAt.{StartAt}
 use Rattle.act1_fuses.specs.Rules.{KeepsRules}
-use Rattle.act1_device.proofs.Samples.{tiny}
-use Rattle.act1_fuses.proofs.Texts.{nothing}
+use Rattle.act1_samples.proofs.Devices.{tiny}
+use Rattle.act1_samples.proofs.AntifuseTexts.{nothing}
 
 abbrev pub port : ℕ → List ℕ → Port
 port p n = record { pad = p; name = n }

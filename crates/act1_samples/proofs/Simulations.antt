@@ -4,7 +4,7 @@ use Rattle.std.specs.Prelude.{codes, slice_get}
 use Rattle.std.specs.Str.Lines.{lines}
 use Rattle.act1_base.proofs.ListGets.{some_is}
 use Rattle.act1_circuit.specs.declared.circuit.Start.{Start}
-use Rattle.act1_circuit.proofs.Samples.{inverter, ring}
+use Rattle.act1_samples.proofs.Circuits.{inverter, ring}
 use Rattle.act1_sim.specs.Cycles.{outputs, AreFirstBits, IsFirstUnrest}
 use Rattle.act1_sim.specs.Vectors.{AreVectorsOf, IsFirstNoVector, is_vector, output_text}
 

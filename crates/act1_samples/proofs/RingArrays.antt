@@ -13,9 +13,9 @@ use Rattle.act1_circuit.specs.declared.circuit.Source.TheVariants.{Module}
 use Rattle.act1_fuses.specs.declared.fuses.FuseFile.{FuseFile}
 use Rattle.act1_fuses.specs.Array.{Drives, pin_wire, out_wire}
 use Rattle.act1_fuses.specs.Text.{fuse_text}
-use Rattle.act1_device.proofs.Samples.{tiny}
-use Rattle.act1_fuses.proofs.Texts.{inverter}
-use Rattle.act1_fuses.proofs.Samples.{the_spot}
+use Rattle.act1_samples.proofs.Devices.{tiny}
+use Rattle.act1_samples.proofs.AntifuseTexts.{inverter}
+use Rattle.act1_samples.proofs.SoundArrays.{the_spot}
 
 abbrev pub ring : FuseFile
 ring = record inverter {

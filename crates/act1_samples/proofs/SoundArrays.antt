@@ -21,9 +21,9 @@ use Rattle.act1_fuses.specs.Wires as any
 use Rattle.act1_fuses.specs.Wires.{links_of}
 use Rattle.act1_fuses.specs.Array.{IsUsed, IsSource, IsFed, Sound, IsCircuitOf, Drives, pin_wire, pad_wire, out_wire}
 use Rattle.act1_fuses.specs.Rules.{KeepsRules}
-use Rattle.act1_device.proofs.Samples.{tiny}
-use Rattle.act1_fuses.proofs.Texts.{inverter}
-use Rattle.act1_circuit.proofs.Samples.{inverter as inverter_circuit}
+use Rattle.act1_samples.proofs.Devices.{tiny}
+use Rattle.act1_samples.proofs.AntifuseTexts.{inverter}
+use Rattle.act1_samples.proofs.Circuits.{inverter as inverter_circuit}
 
 module _ {V : Type 0} (links : List (V × V)) (owner : V → ℕ) (kept : All (λ (l : V × V). owner l.0 ≡ owner l.1) links) where
   pub link_keeps : (a b : V) → Linked links a b → owner a ≡ owner b

@@ -13,7 +13,7 @@ use Rattle.act1_circuit.specs.declared.circuit.Source.TheVariants.{Zero, Module}
 use Rattle.act1_circuit.specs.Range.{HasSource}
 use Rattle.act1_circuit.specs.Firing.{run, fire, fire_all, low_bits, high_bits, RestsAlong, IsAtRest, Waves, IsWave}
 use Rattle.act1_meaning.specs.Meaning.{Means, StartsLatch, IsCase}
-use Rattle.act1_blif.proofs.Samples.{hold, hold_starts}
+use Rattle.act1_samples.proofs.Netlists.{hold, hold_starts}
 
 abbrev pub held : Latch
 held = record { name = codes "q"; input = 0; init = 2 }

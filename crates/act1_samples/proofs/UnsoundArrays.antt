@@ -15,9 +15,9 @@ use Rattle.act1_fuses.specs.declared.fuses.StartAt.{StartAt}
 use Rattle.act1_fuses.specs.Wires as any
 use Rattle.act1_fuses.specs.Wires.{links_of}
 use Rattle.act1_fuses.specs.Array.{IsUsed, IsSource, IsFed, pin_wire, pad_wire, out_wire}
-use Rattle.act1_device.proofs.Samples.{tiny}
-use Rattle.act1_fuses.proofs.Texts.{nothing}
-use Rattle.act1_fuses.proofs.Samples.{joined_keeps, the_spot, spot_at}
+use Rattle.act1_samples.proofs.Devices.{tiny}
+use Rattle.act1_samples.proofs.AntifuseTexts.{nothing}
+use Rattle.act1_samples.proofs.SoundArrays.{joined_keeps, the_spot, spot_at}
 
 -- two modules whose outputs meet on one track
 abbrev pub driven_twice : FuseFile
