@@ -92,12 +92,16 @@ lead_alone word h e =
     let few : length word ≤ 1 = short_or (length word) (get_or word 0 0) (both (nat_le 1 (length word)) lead front).1 e in
     omega arith
 
+-- a word is the spelling of its value
+pub spelled_value : (word : List ℕ) → IsTrue (is_number word) → digits_value 10 word < 2 ^ 64 → word ≡ decimal (digits_value 10 word)
+spelled_value word number fits =
+    sym (decimal-digits_value (numerals_by_value (AllDigits 10) tells_digits) word (all_digits word number) (some_length word number) (lead_alone word number) fits)
+
 -- a number below the cap is spelled so
 pub number_spelled : (most : ℕ) (word : List ℕ) → most < 2 ^ 64 → IsTrue (is_number word) → capped most word < most → word ≡ decimal (capped most word)
 number_spelled most word fits number low =
     let small = low_of most (digits_value 10 word) low (cases_le (digits_value 10 word) most) in
-    sym (ap decimal (low_at_most most (digits_value 10 word) (omega arith))
-    ∙ decimal-digits_value (numerals_by_value (AllDigits 10) tells_digits) word (all_digits word number) (some_length word number) (lead_alone word number) (omega arith))
+    spelled_value word number (omega arith) ∙ sym (ap decimal (low_at_most most (digits_value 10 word) (omega arith)))
 
 not_zero : (b : ℕ) → 48 < b → not (b == 48) ≡ true
 not_zero b h = grind (arith, nat_tests)

@@ -1,5 +1,5 @@
 -- The reading of a text line by line, by the rules of any format.
-use Rattle.std.specs.Prelude.{ℕ, ◌≡◌, ◌+◌, ◌==◌, List, [], ◌∷◌, Result, Ok, Err}
+use Rattle.std.specs.Prelude.{ℕ, ◌≡◌, ◌+◌, ◌==◌, List, [], ◌∷◌, Option, Some, None, Result, Ok, Err}
 use Rattle.std.specs.List.{slice_split}
 use Rattle.act1_base.specs.declared.texts.Stop.{Stop}
 use Rattle.act1_base.specs.declared.texts.Stop.TheVariants.{Fault, Memory}
@@ -19,6 +19,11 @@ Gives (Err (Fault fault)) wanted = wanted ≡ Err fault
 Gives (Err Memory) wanted = Unit {0}
 
 module _ {State Kind : Type 0} where
+  -- whether a text may end in a state, or what is wrong with its end
+  abbrev pub EndsBy : LineRules State Kind → State → Option Kind → Type 0
+  EndsBy rules s None = rules.end s ≡ Ok s
+  EndsBy rules s (Some k) = rules.end s ≡ Err k
+
   -- a fault with the number of its line
   abbrev pub numbered : ℕ → Result State Kind → Result State (TextFault Kind)
   numbered number (Ok s) = Ok s

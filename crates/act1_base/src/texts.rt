@@ -54,10 +54,10 @@ pub struct TextFault<K> {
 /// line after the last, where the text is cut.
 pub trait Format {
     ghost use Rattle.std.specs.Prelude.{◌≡◌, ℕ, List, IfOk};
-    ghost use Rattle.act1_base.specs.Texts.{Gives, LineRules};
+    ghost use Rattle.act1_base.specs.Texts.{EndsBy, Gives, LineRules};
 
     /// What is kept of the lines so far.
-    type State;
+    type State: Drop;
 
     /// What may be wrong with a line.
     type Kind;
@@ -77,12 +77,12 @@ pub trait Format {
         ensures { Gives result ((rules self.now).after state line.now) };
 
     /// What is wrong with a last line that lacks its line feed.
-    fn unended(&self, state: Self::State) -> Self::Kind
-        ensures { result ≡ (rules self.now).unended state };
+    fn unended(&self, state: &Self::State) -> Self::Kind
+        ensures { result ≡ (rules self.now).unended state.now };
 
-    /// The state, if the text may end there, and else what is wrong with its end.
-    fn end(&self, state: Self::State) -> Result<Self::State, Self::Kind>
-        ensures { result ≡ (rules self.now).end state };
+    /// What is wrong with the end of the text, if it may not end in this state.
+    fn end(&self, state: &Self::State) -> Option<Self::Kind>
+        ensures { EndsBy (rules self.now) state.now result };
 }
 
 /// The pieces of the bytes that line feeds part: the lines, and what stands behind the last line
@@ -118,13 +118,14 @@ fn at_end<F: Format>(
 ) -> Result<F::State, Stop<TextFault<F::Kind>>>
     ensures { Gives result (numbered number (at_end (F.rules format.now) state rest.now)) }
 {
-    if !rest.is_empty() {
-        let kind = format.unended(state);
-        return Err(Stop::Fault(TextFault { line: number, kind }));
-    }
-    match format.end(state) {
-        Ok(whole) => Ok(whole),
-        Err(kind) => Err(Stop::Fault(TextFault { line: number, kind })),
+    let wrong = if rest.is_empty() {
+        format.end(&state)
+    } else {
+        Some(format.unended(&state))
+    };
+    match wrong {
+        Some(kind) => Err(Stop::Fault(TextFault { line: number, kind })),
+        None => Ok(state),
     }
 }
 

@@ -1,6 +1,5 @@
 -- What further lines add to what is said.
-use Rattle.std.proofs.Common.{ℕ, ◌≡◌, cond, Bool, true, false, List, [], ◌∷◌, ◌++◌, Option, Some, refl, sym, ap, subst, ◌∙◌, append_assoc}
-use Rattle.std.specs.List.{list_all}
+use Rattle.std.proofs.Common.{◌≡◌, cond, Bool, true, false, List, [], ◌∷◌, ◌++◌, Option, Some, refl, sym, ap, subst, ◌∙◌, append_assoc}
 use Rattle.std.proofs.lemmas.Bool.{and_parts}
 use Rattle.std.proofs.lemmas.List.{append-nil}
 use Rattle.act1_bliftext.specs.Lines.{Line, over}
@@ -10,7 +9,6 @@ use Rattle.act1_bliftext.specs.Statements.{Block, AreSaid, block_of, block_with,
 use Rattle.act1_bliftext.specs.Laws.{are_rows, QuietLinesAdd, SaidLinesAdd}
 use Rattle.act1_bliftext.specs.declared.form.Form.{Form}
 use Rattle.act1_bliftext.specs.declared.form.Form.TheVariants as form
-use Rattle.act1_bliftext.specs.declared.statement.NumberedStatement.{NumberedStatement}
 use Rattle.act1_bliftext.proofs.Blocks.{said_push, earlier_next, head_next, rows_next, blocks_next}
 
 -- a line that says something is no row

@@ -9,7 +9,7 @@ use Rattle.act1_base.specs.Lines.{lines_of, in_front}
 use Rattle.act1_base.specs.Names.{is_name_byte}
 use Rattle.act1_base.specs.Words.{text_of_lines}
 use Rattle.act1_base.proofs.TextLines.{IsWithout, joined, joined_without}
-use Rattle.act1_bliftext.specs.Lines.{Line, Joined, is_blank, without_comment, before_backslash, words_of, word_before, line_of, lines_from, joined_before, joined_from, text_lines}
+use Rattle.act1_bliftext.specs.Lines.{Line, Joined, is_blank, without_comment, before_backslash, words_of, word_before, line_of, lines_from, joined_before, joined_from}
 use Rattle.act1_bliftext.specs.Faults.{is_fine_word}
 use Rattle.act1_bliftext.specs.Laws.{are_fine, FineWordsAreRead}
 use Rattle.act1_bliftext.proofs.PlaceLemmas.{its_line}

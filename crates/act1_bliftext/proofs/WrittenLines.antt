@@ -1,5 +1,5 @@
 -- How lines that were written are read.
-use Rattle.std.proofs.Common.{ℕ, List, [], sym, subst}
+use Rattle.std.proofs.Common.{List, [], subst}
 use Rattle.act1_bliftext.specs.Lines.{Line, text_lines, over}
 use Rattle.act1_bliftext.specs.Statements.{Say}
 use Rattle.act1_bliftext.specs.Laws.{SaidIsRead, SaidKeepsRules, WrittenLinesAreRead}

@@ -1,5 +1,5 @@
 -- What the reader keeps of the lines above, and what it makes of the next one.
-use Rattle.std.specs.Prelude.{ℕ, ◌≡◌, ◌++◌, ◌+◌, ◌||◌, Bool, true, false, List, [], ◌∷◌, length, map, sum_by, Option, Some, None, Result, Ok, Err, if◌then◌else◌}
+use Rattle.std.specs.Prelude.{ℕ, ◌≡◌, ◌≤◌, ◌++◌, ◌+◌, ◌||◌, Bool, true, false, List, [], ◌∷◌, length, map, sum_by, Option, Some, None, Result, Ok, Err, if◌then◌else◌}
 use Rattle.std.specs.Option.{option_or}
 use Rattle.act1_base.specs.declared.texts.Stop.{Stop}
 use Rattle.act1_base.specs.declared.texts.Stop.TheVariants.{Fault, Memory}
@@ -124,9 +124,18 @@ place_fault form later ended known rest =
     if is_after_fault form later ended then Some kind.After else
     if is_limit_fault form known rest then Some kind.Limit else None
 
--- the first fault of a line that is no row, but for its bytes
+-- the first fault of a line that is no row, but for its bytes: by whether there were words and an `.end`, and by the names so far
+abbrev pub form_fault : Form → Bool → Bool → List (List ℕ) → List (List ℕ) → Option BlifKind
+form_fault form later ended known rest = option_or (own_fault form rest) (place_fault form later ended known rest)
+
+-- the same, after a reading
 abbrev pub rest_fault : Form → Reading → List (List ℕ) → Option BlifKind
-rest_fault form old rest = option_or (own_fault form rest) (place_fault form old.is_later old.has_ended old.names rest)
+rest_fault form old rest = form_fault form old.is_later old.has_ended old.names rest
+
+-- the first fault of a `.names` but for its names that are too long or too many
+abbrev pub NamesFault : Bool → List (List ℕ) → Option BlifKind → Type 0
+NamesFault ended rest None = (ended ≡ false) × (1 ≤ length rest) × (length rest ≤ 65)
+NamesFault ended rest (Some k) = (later : Bool) (known : List (List ℕ)) → form_fault form.Names later ended known rest ≡ Some k
 
 -- a latch has the init of its line
 abbrev pub StartIs : List (List ℕ) → Statement → Type 0

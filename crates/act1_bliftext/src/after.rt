@@ -1,6 +1,6 @@
-ghost use Rattle.std.specs.Prelude.{ℕ, ◌≡◌, ◌≤◌, ◌++◌, ◌∷◌, [], true, length, map, IfOk};
+ghost use Rattle.std.specs.Prelude.{ℕ, List, ◌≡◌, ◌≤◌, ◌++◌, ◌∷◌, [], true, length, map, IfOk};
 ghost use Rattle.act1_bliftext.specs.LatchSteps.{control_word, bytes_in};
-ghost use Rattle.act1_bliftext.specs.ReadingSteps.{FormGives, IsPort, LatchFollows};
+ghost use Rattle.act1_bliftext.specs.ReadingSteps.{FormGives, IsPort, LatchFollows, NamesFault, form_fault};
 ghost use Rattle.act1_bliftext.specs.Forms.{model_name};
 ghost use Rattle.act1_bliftext.specs.Statements.{form_in, numbers_in};
 ghost use Rattle.act1_bliftext.specs.declared.form.Form.TheVariants as form;
@@ -9,36 +9,11 @@ use crate::fault::BlifKind;
 use crate::form::Form;
 use crate::forms::has_long;
 use crate::latch::{add_latch, latch_rest, latch_statement};
-use crate::names::Names;
 use crate::open_names::OpenNames;
 use crate::reading::Reading;
 use crate::statement::{NumberedStatement, Statement};
 use act1_base::{Items, Memory, Name, Stop};
 use std::alloc::Global;
-
-// The reading after a line with words under which no row may stand.
-fn without_rows(
-    model: Option<Name>,
-    names: Names,
-    statements: Items<NumberedStatement>,
-    has_ended: bool,
-) -> Reading
-    ensures model { result.model ≡ model }
-    ensures names { result.names ≡ names }
-    ensures statements { result.statements ≡ statements }
-    ensures closed { result.open_names ≡ None }
-    ensures later { result.is_later ≡ true }
-    ensures ended { result.has_ended ≡ has_ended }
-{
-    Reading {
-        model,
-        names,
-        statements,
-        open_names: None,
-        is_later: true,
-        has_ended,
-    }
-}
 
 // The name behind `.model`.
 fn model_name(alloc: Global, rest: &[&[u8]]) -> Result<Option<Name>, Memory>
@@ -50,33 +25,37 @@ fn model_name(alloc: Global, rest: &[&[u8]]) -> Result<Option<Name>, Memory>
     }
 }
 
+// The first fault of a `.model` with these words behind it.
+fn model_fault(is_later: bool, has_ended: bool, rest: &[&[u8]]) -> Option<BlifKind>
+    ensures { (known : List (List ℕ)) → form_fault form.Model is_later has_ended known (map (λ w. w.now) rest.now) ≡ result }
+{
+    if rest.len() > 1 {
+        return Some(BlifKind::Shape);
+    }
+    if is_later || has_ended {
+        return Some(BlifKind::After);
+    }
+    if has_long(rest) {
+        return Some(BlifKind::Limit);
+    }
+    None
+}
+
 /// The reading after a `.model`.
 pub fn after_model(
     alloc: Global,
-    reading: Reading,
+    mut reading: Reading,
     rest: &[&[u8]],
 ) -> Result<Reading, Stop<BlifKind>>
     ensures { (number : ℕ) → FormGives form.Model number (map (λ w. w.now) rest.now) reading result }
 {
-    if rest.len() > 1 {
-        return Err(Stop::Fault(BlifKind::Shape));
+    if let Some(kind) = model_fault(reading.is_later, reading.has_ended, rest) {
+        return Err(Stop::Fault(kind));
     }
-    if reading.is_later {
-        return Err(Stop::Fault(BlifKind::After));
-    }
-    if reading.has_ended {
-        return Err(Stop::Fault(BlifKind::After));
-    }
-    if has_long(rest) {
-        return Err(Stop::Fault(BlifKind::Limit));
-    }
-    let Reading {
-        names,
-        statements,
-        ..
-    } = reading;
-    let model = model_name(alloc, rest)?;
-    Ok(without_rows(model, names, statements, false))
+    reading.model = model_name(alloc, rest)?;
+    reading.open_names = None;
+    reading.is_later = true;
+    Ok(reading)
 }
 
 // What a line of ports with these numbers of names says.
@@ -96,7 +75,7 @@ fn port_statement(form: Form, numbers: Items<u16>) -> Statement
 /// The reading after `.inputs`, `.outputs` or `.clock`.
 pub fn after_ports(
     alloc: Global,
-    reading: Reading,
+    mut reading: Reading,
     form: Form,
     number: u32,
     rest: &[&[u8]],
@@ -107,25 +86,14 @@ pub fn after_ports(
     if reading.has_ended {
         return Err(Stop::Fault(BlifKind::After));
     }
-    let Reading {
-        model,
-        mut names,
-        mut statements,
-        ..
-    } = reading;
-    let numbers = names.add(alloc, rest)?;
-    statements.push(NumberedStatement {
+    let numbers = reading.names.add(alloc, rest)?;
+    reading.statements.push(NumberedStatement {
         line: number,
         statement: port_statement(form, numbers),
     })?;
-    Ok(Reading {
-        model,
-        names,
-        statements,
-        open_names: None,
-        is_later: true,
-        has_ended: false,
-    })
+    reading.open_names = None;
+    reading.is_later = true;
+    Ok(reading)
 }
 
 // A `.names` with these numbers of names, to which rows may come.
@@ -150,45 +118,44 @@ fn open_names(alloc: Global, line: u32, numbers: Items<u16>) -> OpenNames
     }
 }
 
+// The first fault of a `.names` with these words behind it, but for names that are too many.
+fn names_fault(has_ended: bool, rest: &[&[u8]]) -> Option<BlifKind>
+    ensures { NamesFault has_ended (map (λ w. w.now) rest.now) result }
+{
+    if rest.is_empty() {
+        return Some(BlifKind::Shape);
+    }
+    if has_ended {
+        return Some(BlifKind::After);
+    }
+    if rest.len() > 65 {
+        return Some(BlifKind::Limit);
+    }
+    None
+}
+
 /// The reading after a `.names`.
 pub fn after_names(
     alloc: Global,
-    reading: Reading,
+    mut reading: Reading,
     number: u32,
     rest: &[&[u8]],
 ) -> Result<Reading, Stop<BlifKind>>
     ensures { FormGives form.Names number (map (λ w. w.now) rest.now) reading result }
 {
-    if rest.is_empty() {
-        return Err(Stop::Fault(BlifKind::Shape));
+    if let Some(kind) = names_fault(reading.has_ended, rest) {
+        return Err(Stop::Fault(kind));
     }
-    if reading.has_ended {
-        return Err(Stop::Fault(BlifKind::After));
-    }
-    if rest.len() > 65 {
-        return Err(Stop::Fault(BlifKind::Limit));
-    }
-    let Reading {
-        model,
-        mut names,
-        statements,
-        ..
-    } = reading;
-    let numbers = names.add(alloc, rest)?;
-    Ok(Reading {
-        model,
-        names,
-        statements,
-        open_names: Some(open_names(alloc, number, numbers)),
-        is_later: true,
-        has_ended: false,
-    })
+    let numbers = reading.names.add(alloc, rest)?;
+    reading.open_names = Some(open_names(alloc, number, numbers));
+    reading.is_later = true;
+    Ok(reading)
 }
 
 // The reading after a latch of these names and this init.
 fn with_latch(
     alloc: Global,
-    reading: Reading,
+    mut reading: Reading,
     number: u32,
     input: &[u8],
     output: &[u8],
@@ -200,18 +167,14 @@ fn with_latch(
     if reading.has_ended {
         return Err(Stop::Fault(BlifKind::After));
     }
-    let Reading {
-        model,
-        mut names,
-        mut statements,
-        ..
-    } = reading;
-    let numbers = add_latch(&mut names, alloc, input, output, control)?;
-    statements.push(NumberedStatement {
+    let numbers = add_latch(&mut reading.names, alloc, input, output, control)?;
+    reading.statements.push(NumberedStatement {
         line: number,
         statement: latch_statement(numbers.as_slice(), init),
     })?;
-    Ok(without_rows(model, names, statements, false))
+    reading.open_names = None;
+    reading.is_later = true;
+    Ok(reading)
 }
 
 // The reading after a latch of these words.
@@ -249,7 +212,7 @@ pub fn after_latch(
 }
 
 /// The reading after an `.end`.
-pub fn after_end(reading: Reading, rest: &[&[u8]]) -> Result<Reading, Stop<BlifKind>>
+pub fn after_end(mut reading: Reading, rest: &[&[u8]]) -> Result<Reading, Stop<BlifKind>>
     ensures { (number : ℕ) → FormGives form.End number (map (λ w. w.now) rest.now) reading result }
 {
     if !rest.is_empty() {
@@ -258,11 +221,8 @@ pub fn after_end(reading: Reading, rest: &[&[u8]]) -> Result<Reading, Stop<BlifK
     if reading.has_ended {
         return Err(Stop::Fault(BlifKind::After));
     }
-    let Reading {
-        model,
-        names,
-        statements,
-        ..
-    } = reading;
-    Ok(without_rows(model, names, statements, true))
+    reading.open_names = None;
+    reading.is_later = true;
+    reading.has_ended = true;
+    Ok(reading)
 }

@@ -77,42 +77,28 @@ fn end_line<'a>(alloc: Global, place: Place<'a>) -> Result<Place<'a>, BlifFault>
 }
 
 // The place behind one more line.
-fn next_line<'a>(alloc: Global, place: Place<'a>, line: &'a [u8]) -> Result<Place<'a>, BlifFault>
+fn next_line<'a>(
+    alloc: Global,
+    mut place: Place<'a>,
+    line: &'a [u8],
+) -> Result<Place<'a>, BlifFault>
     requires few { kept_bytes place + length line.now < 2 ^ 32 }
     requires number { place.number + 1 < 2 ^ 32 }
     ensures goes { (all : List Line) (raws : List (List ℕ)) → IsPlace all (line.entry.now ∷ raws) place.entry → StepGives all raws result }
     ensures kept { IfOk result (λ p. kept_bytes p ≤ kept_bytes place.entry + length line.entry.now) }
     ensures number { IfOk result (λ p. p.number ≡ place.entry.number + 1) }
 {
-    let Place {
-        reading,
-        mut words,
-        first,
-        number,
-    } = place;
     let code = without_comment(line);
     match before_backslash(code) {
         Some(front) => {
-            add_words(&mut words, front)?;
-            Ok(Place {
-                reading,
-                words,
-                first,
-                number: number + 1,
-            })
+            add_words(&mut place.words, front)?;
+            place.number += 1;
+            Ok(place)
         }
         None => {
-            add_words(&mut words, code)?;
-            let number = number + 1;
-            end_line(
-                alloc,
-                Place {
-                    reading,
-                    words,
-                    first,
-                    number,
-                },
-            )
+            add_words(&mut place.words, code)?;
+            place.number += 1;
+            end_line(alloc, place)
         }
     }
 }

@@ -10,7 +10,7 @@ use crate::places::{are_apart, longs_of, places_of};
 use crate::ranges::out_of_range;
 use crate::tracks::{are_in_order, channels_of};
 use crate::values::{Sizes, Values};
-use act1_base::Items;
+use act1_base::{Items, Name};
 use act1_device::{Device, Long, PadPlace};
 use std::alloc::Global;
 
@@ -62,10 +62,10 @@ fn pads(
 
 // The device of the values, by the first rule of its lists that is broken.
 #[tactic(auto, using(crate::proofs::Valid::device_of_values), unfolding(crate::specs::Rules::list_rules, crate::specs::Rules::first_fault))]
-pub fn device_of(alloc: Global, values: Values, sizes: Sizes) -> Result<Device, DeviceFault>
-    requires in_range { first_fault (size_rules values) ≡ None }
-    requires sizes { HasSizes values sizes }
-    ensures { Follows (list_rules values) (HasValues values) result }
+pub fn device_of(alloc: Global, values: &Values, sizes: Sizes) -> Result<Device, DeviceFault>
+    requires in_range { first_fault (size_rules values.now) ≡ None }
+    requires sizes { HasSizes values.now sizes }
+    ensures { Follows (list_rules values.now) (HasValues values.now) result }
 {
     let Sizes {
         rows,
@@ -73,6 +73,7 @@ pub fn device_of(alloc: Global, values: Values, sizes: Sizes) -> Result<Device, 
         pins,
         ..
     } = sizes;
+    let name = Name::new(alloc, values.name.as_bytes())?;
     let tracks = tracks(alloc, rows, columns, values.tracks.as_slice())?;
     let longs = longs(alloc, rows, values.longs.as_slice())?;
     let pads = pads(alloc, rows, columns, values.pads.as_slice())?;
@@ -83,7 +84,7 @@ pub fn device_of(alloc: Global, values: Values, sizes: Sizes) -> Result<Device, 
         return Err(DeviceFault::new(DeviceKind::Pads, 10));
     }
     Ok(Device {
-        name: values.name,
+        name,
         rows,
         columns,
         pins,

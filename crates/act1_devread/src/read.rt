@@ -54,7 +54,7 @@ fn device_in(alloc: Global, table: &Table) -> Result<Device, DeviceFault>
     check_present(table)?;
     let values = values_in(alloc, table)?;
     let sizes = sizes_of(&values)?;
-    let device = device_of(alloc, values, sizes)?;
+    let device = device_of(alloc, &values, sizes)?;
     check_known(table)?;
     Ok(device)
 }

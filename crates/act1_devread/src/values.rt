@@ -2,7 +2,7 @@ use act1_base::{Items, Name};
 
 // What a document has at the keys of a device file, each value of the kind that its key asks for.
 // Whether it is in range isn't known yet.
-#[derive(Debug, Drop)]
+#[derive(Drop)]
 pub struct Values {
     pub format: i64,
     pub name: Name,
@@ -17,7 +17,7 @@ pub struct Values {
 }
 
 // The numbers and the letters of a device, in range.
-#[derive(Clone, Copy, Debug)]
+#[derive(Clone, Copy)]
 pub struct Sizes {
     pub rows: u8,
     pub columns: u8,

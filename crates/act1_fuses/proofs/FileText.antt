@@ -5,14 +5,13 @@ use Rattle.act1_fuses.specs.declared.fuses.FuseFile.{FuseFile}
 use Rattle.act1_fuses.specs.Text.{fuse_text, clock_lines, port_words, start_words, site_words}
 use Rattle.act1_fuses.proofs.TextLines.{text_of_parts}
 
--- eight lists put behind one another
-in_one : {X : Type 0} (a b c d e f g h : List X) → a ++ b ++ c ++ d ++ e ++ f ++ g ++ h ≡ a ++ (b ++ (c ++ (d ++ (e ++ (f ++ (g ++ h))))))
-in_one a b c d e f g h = simp append_assoc refl
+-- nine lists put behind one another
+in_one : {X : Type 0} (old a b c d e f g h : List X) → old ++ a ++ b ++ c ++ d ++ e ++ f ++ g ++ h ≡ old ++ (a ++ (b ++ (c ++ (d ++ (e ++ (f ++ (g ++ h)))))))
+in_one old a b c d e f g h = simp append_assoc refl
 
--- the parts of the text, each behind those before it, make the text of the file
-pub text_of_file : (f : FuseFile) (empty head device clock ins outs starts sites end : List ℕ)
-    → empty ≡ []
-    → head ≡ empty ++ codes "act1 fuses 1\n"
+-- the parts of the text, each behind those before it, are the text of the file behind what stood there
+pub text_of_file : (f : FuseFile) (old head device clock ins outs starts sites end : List ℕ)
+    → head ≡ old ++ codes "act1 fuses 1\n"
     → device ≡ head ++ text_line (codes "device" ∷ f.device ∷ [])
     → clock ≡ device ++ text_of_lines (clock_lines f.clock)
     → ins ≡ clock ++ text_of_lines (map (port_words (codes "in")) f.ins)
@@ -20,8 +19,8 @@ pub text_of_file : (f : FuseFile) (empty head device clock ins outs starts sites
     → starts ≡ outs ++ text_of_lines (map start_words f.starts)
     → sites ≡ starts ++ text_of_lines (map site_words f.sites)
     → end ≡ sites ++ codes "end\n"
-    → end ≡ fuse_text f
-text_of_file f empty head device clock ins outs starts sites end e0 e1 e2 e3 e4 e5 e6 e7 e8 =
+    → end ≡ old ++ fuse_text f
+text_of_file f old head device clock ins outs starts sites end e1 e2 e3 e4 e5 e6 e7 e8 =
     let first = codes "act1 fuses 1\n" in
     let second = text_line (codes "device" ∷ f.device ∷ []) in
     let clocks = clock_lines f.clock in
@@ -30,6 +29,6 @@ text_of_file f empty head device clock ins outs starts sites end e0 e1 e2 e3 e4 
     let begins = map start_words f.starts in
     let fuses = map site_words f.sites in
     let last : List (List (List ℕ)) = (codes "end" ∷ []) ∷ [] in
-    rw (e8, e7, e6, e5, e4, e3, e2, e1, e0)
-    (in_one first second (text_of_lines clocks) (text_of_lines inputs) (text_of_lines outputs) (text_of_lines begins) (text_of_lines fuses) (text_of_lines last)
-    ∙ sym (ap (λ (rest : List ℕ). first ++ (second ++ rest)) (text_of_parts clocks inputs outputs begins fuses last)))
+    rw (e8, e7, e6, e5, e4, e3, e2, e1)
+    (in_one old first second (text_of_lines clocks) (text_of_lines inputs) (text_of_lines outputs) (text_of_lines begins) (text_of_lines fuses) (text_of_lines last)
+    ∙ sym (ap (λ (rest : List ℕ). old ++ (first ++ (second ++ rest))) (text_of_parts clocks inputs outputs begins fuses last)))

@@ -1,10 +1,13 @@
 -- The names that lines gave, kept in tables.
-use Rattle.std.proofs.Common.{ℕ, ◌≡◌, nat_lt, Bool, true, false, true≢false, not, ◌||◌, ◌&&◌, List, [], ◌∷◌, Some, None, Ok, refl, sym, ap, ◌∙◌}
+use Rattle.std.proofs.Common.{ℕ, ◌≡◌, nat_lt, Bool, true, false, true≢false, not, ◌||◌, ◌&&◌, List, [], ◌∷◌, Some, None, Result, Ok, Err, IfOk, refl, sym, ap, ◌∙◌}
+use Rattle.std.specs.Bool.{⊤}
 use Rattle.std.specs.List.{list_any}
 use Rattle.std.specs.Str.{bytes_eq}
 use Rattle.std.proofs.lemmas.List.{map-append}
 use Rattle.std.proofs.lemmas.Slice.Eq.{bytes_eq-Decides}
+use Rattle.act1_base.specs.declared.texts.Stop.{Stop}
 use Rattle.act1_device.specs.declared.device.Device.{Device}
+use Rattle.act1_fuses.specs.declared.fault.FuseKind.{FuseKind}
 use Rattle.act1_fuses.specs.declared.fault.FuseKind.TheVariants as kind
 use Rattle.act1_fuses.specs.declared.form.FuseLine.{FuseLine}
 use Rattle.act1_fuses.specs.declared.form.FuseLine.TheVariants as form
@@ -14,7 +17,7 @@ use Rattle.act1_fuses.specs.declared.fuses.Port.{Port}
 use Rattle.act1_fuses.specs.declared.fuses.StartAt.{StartAt}
 use Rattle.act1_fuses.specs.declared.given.GivenNames.{GivenNames}
 use Rattle.act1_fuses.specs.Given.{given_of, is_own_name, given_with, is_among, is_clock}
-use Rattle.act1_fuses.specs.Reading.{is_free_pad, may_follow, comes_after, rules_of, fault_of, file_with, step}
+use Rattle.act1_fuses.specs.Reading.{is_free_pad, may_follow, comes_after, rules_of, fault_of, file_with, step, Takes}
 use Rattle.act1_fuses.specs.Rules.{port_names, start_names}
 use Rattle.act1_fuses.proofs.ReadStates.{passed, stepped}
 
@@ -76,3 +79,9 @@ module _ (dev : Device) (s : FuseState) where
       let next = stepped dev s t line (fault_of dev s line) refl h in
       let is_true : is_own ≡ true = own ∙ ap (λ (g : GivenNames). is_own_name g s.file.clock line) kept ∙ own_name line next.0 in
       more is_true ∙ ap (λ (g : GivenNames). given_with g line) kept ∙ sym (given_more s.file line) ∙ ap (λ (u : FuseState). given_of u.file) next.1
+
+  -- the same after a call, which may have been refused
+  pub names_after : (line : FuseLine) (t : FuseState) (is_own : Bool) (old new : GivenNames) (result : Result ⊤ (Stop FuseKind)) → old ≡ given_of s.file → is_own ≡ is_own_name old s.file.clock line
+      → (is_own ≡ true → new ≡ given_with old line) → Takes (step dev s line) t result → IfOk result (λ (done : ⊤). new ≡ given_of t.file)
+  names_after line t is_own old new (Ok done) kept own more h = names_go_on line t is_own old new kept own more h
+  names_after line t is_own old new (Err stop) kept own more h = tt

@@ -1,10 +1,12 @@
 -- What the lines of an antifuse file do, one after the other, and what may be wrong with each. The rules are this project's own.
-use Rattle.std.specs.Prelude.{ℕ, Bool, false, not, ◌&&◌, ◌||◌, ◌==◌, nat_le, nat_lt, ◌+◌, if◌then◌else◌, List, [], ◌∷◌, ◌++◌, length, Option, Some, None, Result, Ok, Err}
+use Rattle.std.specs.Prelude.{ℕ, ◌≡◌, ⊤, Bool, false, not, ◌&&◌, ◌||◌, ◌==◌, nat_le, nat_lt, ◌+◌, if◌then◌else◌, List, [], ◌∷◌, ◌++◌, length, Option, Some, None, Result, Ok, Err}
 use Rattle.std.specs.List.{list_any}
 use Rattle.std.specs.Str.{bytes_eq}
 use Rattle.act1_base.specs.Rising.{is_before}
 use Rattle.act1_base.specs.Texts.{LineRules, reading}
 use Rattle.act1_base.specs.Words.{words_of}
+use Rattle.act1_base.specs.declared.texts.Stop.{Stop}
+use Rattle.act1_base.specs.declared.texts.Stop.TheVariants.{Fault, Memory}
 use Rattle.act1_base.specs.declared.texts.TextFault.{TextFault}
 use Rattle.act1_device.specs.declared.device.Device.{Device}
 use Rattle.act1_fuses.specs.declared.fault.FuseKind.{FuseKind}
@@ -100,6 +102,12 @@ unless (Some k) s = Err k
 -- what a line of a form does
 abbrev pub step : Device → FuseState → FuseLine → Result FuseState FuseKind
 step dev s line = unless (fault_of dev s line) (state_with s line)
+
+-- what a call did to a state, where want of memory alone is free
+abbrev pub Takes : Result FuseState FuseKind → FuseState → Result ⊤ (Stop FuseKind) → Type 0
+Takes wanted new (Ok done) = wanted ≡ Ok new
+Takes wanted new (Err (Fault k)) = wanted ≡ Err k
+Takes wanted new (Err Memory) = Unit {0}
 
 -- what the words of a line do
 abbrev pub step_of_words : Device → FuseState → Option FuseLine → Result FuseState FuseKind

@@ -4,7 +4,7 @@ use act1_device::Site;
 
 /// A line of an antifuse file, as it is written. Its numbers may be of any length: one above 65,535
 /// stands here as 65,536, since no device has anything of such a number.
-#[derive(Debug, Drop)]
+#[derive(Drop)]
 pub enum FuseLine {
     /// `act1 fuses 1`
     Header,
@@ -44,7 +44,7 @@ pub enum FuseLine {
 }
 
 /// What the lines of an antifuse file say so far.
-#[derive(Debug, Drop)]
+#[derive(Drop)]
 pub struct FuseState {
     /// The place of the last line's kind among the kinds, which are numbered from 1 in the order in
     /// which they stand in a file; 0 before the first line.

@@ -5,7 +5,6 @@ ghost use Rattle.act1_fuses.specs.Reads.{FuseReads, ReadsAgain, IsFuseText};
 
 use crate::fault::{FuseFault, FuseKind};
 use crate::fuses::FuseFile;
-use crate::lines::read_line;
 use crate::reader::FuseReader;
 use act1_base::{Format, Memory, Stop, TextFault, read_text};
 use act1_device::{Device, devices_are_small};
@@ -32,16 +31,10 @@ impl<'a> Format for FuseFormat<'a> {
     }
 
     fn after(&self, reader: FuseReader, line: &[u8]) -> Result<FuseReader, Stop<FuseKind>> {
-        if reader.has_ended() {
-            return Err(Stop::Fault(FuseKind::End));
-        }
-        match read_line(self.alloc, line)? {
-            Some(line) => reader.step(self.alloc, self.device, line),
-            None => Err(Stop::Fault(FuseKind::Line)),
-        }
+        reader.after(self.alloc, self.device, line)
     }
 
-    fn unended(&self, reader: FuseReader) -> FuseKind {
+    fn unended(&self, reader: &FuseReader) -> FuseKind {
         if reader.has_ended() {
             FuseKind::End
         } else {
@@ -49,11 +42,11 @@ impl<'a> Format for FuseFormat<'a> {
         }
     }
 
-    fn end(&self, reader: FuseReader) -> Result<FuseReader, FuseKind> {
+    fn end(&self, reader: &FuseReader) -> Option<FuseKind> {
         if reader.has_ended() {
-            Ok(reader)
+            None
         } else {
-            Err(FuseKind::End)
+            Some(FuseKind::End)
         }
     }
 }

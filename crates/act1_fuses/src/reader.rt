@@ -1,12 +1,14 @@
 ghost use Rattle.std.specs.Prelude.{◌≡◌, IfOk};
 ghost use Rattle.act1_base.specs.Texts.{Gives};
 ghost use Rattle.act1_fuses.specs.Reading as reading;
-ghost use Rattle.act1_fuses.specs.Reading.{first_state, has_ended};
+ghost use Rattle.act1_fuses.specs.Reading.{Takes, first_state, fuse_rules, has_ended};
+ghost use Rattle.act1_fuses.specs.Given.{given_of};
 
 use crate::fault::FuseKind;
 use crate::form::{FuseLine, FuseState};
 use crate::fuses::FuseFile;
 use crate::given::GivenNames;
+use crate::lines::read_line;
 use crate::step::step;
 use act1_base::{Items, Memory, Name, Stop};
 use act1_device::Device;
@@ -31,6 +33,43 @@ impl Model for FuseReader {
     ghost view = { λ reader. reader.state };
 
     ghost invariant = { λ reader. reader.given ≡ given_of reader.state.file };
+}
+
+// What a line of this form does to the state and to the names that lines gave.
+fn take_form(
+    alloc: Global,
+    device: &Device,
+    state: &mut FuseState,
+    given: &mut GivenNames,
+    line: FuseLine,
+) -> Result<(), Stop<FuseKind>>
+    requires { given.old ≡ given_of state.old.file }
+    ensures takes { Takes (reading.step device.now state.old line) state.new result }
+    ensures given { IfOk result (λ _. given.new ≡ given_of state.new.file) }
+{
+    let is_own = given.take(&state.file.clock, &line)?;
+    step(alloc, device, state, line, is_own)
+}
+
+// What a line does to the state and to the names that lines gave.
+fn take_line(
+    alloc: Global,
+    device: &Device,
+    state: &mut FuseState,
+    given: &mut GivenNames,
+    line: &[u8],
+) -> Result<(), Stop<FuseKind>>
+    requires { given.old ≡ given_of state.old.file }
+    ensures takes { Takes ((fuse_rules device.now).after state.old line.now) state.new result }
+    ensures given { IfOk result (λ _. given.new ≡ given_of state.new.file) }
+{
+    if state.place == 8 {
+        return Err(Stop::Fault(FuseKind::End));
+    }
+    match read_line(alloc, line)? {
+        Some(line) => take_form(alloc, device, state, given, line),
+        None => Err(Stop::Fault(FuseKind::Line)),
+    }
 }
 
 impl FuseReader {
@@ -62,19 +101,24 @@ impl FuseReader {
         self.state.place == 8
     }
 
-    /// What a line more does: the lines with this one, or the least kind of what is wrong with it.
-    pub fn step(
+    /// What a line more does, which is given without its line feed: the lines with this one, or the least
+    /// kind of what is wrong with it.
+    pub fn after(
         self,
         alloc: Global,
         device: &Device,
-        line: FuseLine,
+        line: &[u8],
     ) -> Result<FuseReader, Stop<FuseKind>>
-        ensures { Gives result (reading.step device.now self line) }
+        ensures { Gives result ((fuse_rules device.now).after self line.now) }
     {
-        let FuseReader { state, mut given } = self;
-        let is_own = given.take(&state.file.clock, &line)?;
-        let state = step(alloc, device, state, line, is_own)?;
-        Ok(FuseReader { state, given })
+        let FuseReader {
+            mut state,
+            mut given,
+        } = self;
+        match take_line(alloc, device, &mut state, &mut given, line) {
+            Ok(()) => Ok(FuseReader { state, given }),
+            Err(stop) => Err(stop),
+        }
     }
 
     /// The file that the lines say.

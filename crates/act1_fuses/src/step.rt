@@ -2,9 +2,9 @@ ghost use Rattle.std.specs.Prelude.{◌≡◌, [], ◌∷◌, ◌==◌, ◌≤�
 ghost use Rattle.std.specs.List.{list_any};
 ghost use Rattle.std.specs.Str.{bytes_eq};
 ghost use Rattle.act1_base.specs.Rising.{is_before};
-ghost use Rattle.act1_base.specs.Texts.{Gives};
 ghost use Rattle.act1_fuses.specs.Given.{given_of, is_own_name};
 ghost use Rattle.act1_fuses.specs.Reading as reading;
+ghost use Rattle.act1_fuses.specs.Reading.{Takes};
 ghost use Rattle.act1_fuses.specs.SiteTest.{is_site};
 ghost use Rattle.act1_fuses.specs.declared.form.FuseLine.TheVariants as form;
 
@@ -105,116 +105,111 @@ fn is_site(device: &Device, site: Site) -> bool
     device.is_site(site)
 }
 
-// The state after a line that isn't ordered among others.
-fn moved(alloc: Global, place: u8, file: FuseFile) -> FuseState
-    ensures { result ≡ record { place = place; last = []; file = file } }
+// Moves to the place of a line that isn't ordered among others.
+fn move_to(alloc: Global, state: &mut FuseState, place: u8)
+    ensures { state.new ≡ record { place = place; last = []; file = state.old.file } }
 {
-    FuseState {
-        place,
-        last: Items::new(alloc),
-        file,
-    }
+    state.place = place;
+    state.last = Items::new(alloc);
 }
 
 // The device's line.
 fn add_device(
     alloc: Global,
     device: &Device,
-    state: FuseState,
+    state: &mut FuseState,
     name: Name,
-) -> Result<FuseState, Stop<FuseKind>>
-    requires { IsTrue (reading.may_follow state.place 2) }
-    ensures { Gives result (reading.step device.now state (form.Device name)) }
+) -> Result<(), Stop<FuseKind>>
+    requires { IsTrue (reading.may_follow state.old.place 2) }
+    ensures { Takes (reading.step device.now state.old (form.Device name)) state.new result }
 {
-    let FuseState { mut file, .. } = state;
     if !has_name(&name, &device.name) {
         return Err(Stop::Fault(FuseKind::Device));
     }
-    file.device = name;
-    Ok(moved(alloc, 2, file))
+    state.file.device = name;
+    move_to(alloc, state, 2);
+    Ok(())
 }
 
 // The clock's line.
-fn add_clock(alloc: Global, state: FuseState, name: Name) -> FuseState
-    ensures { result ≡ reading.state_with state (form.Clock name) }
+fn add_clock(alloc: Global, state: &mut FuseState, name: Name)
+    ensures { state.new ≡ reading.state_with state.old (form.Clock name) }
 {
-    let FuseState { mut file, .. } = state;
-    file.clock = Some(name);
-    moved(alloc, 3, file)
+    state.file.clock = Some(name);
+    move_to(alloc, state, 3);
 }
 
 // The line of an input.
 fn add_in(
     alloc: Global,
     device: &Device,
-    state: FuseState,
+    state: &mut FuseState,
     pad: u32,
     name: Name,
     is_own: bool,
-) -> Result<FuseState, Stop<FuseKind>>
-    requires place { IsTrue (reading.may_follow state.place 4) }
-    requires own { is_own ≡ is_own_name (given_of state.file) state.file.clock (form.In pad name) }
-    ensures { Gives result (reading.step device.now state (form.In pad name)) }
+) -> Result<(), Stop<FuseKind>>
+    requires place { IsTrue (reading.may_follow state.old.place 4) }
+    requires own { is_own ≡ is_own_name (given_of state.old.file) state.old.file.clock (form.In pad name) }
+    ensures { Takes (reading.step device.now state.old (form.In pad name)) state.new result }
 {
-    let FuseState { mut file, .. } = state;
-    if !is_free_pad(device, &file, pad) {
+    if !is_free_pad(device, &state.file, pad) {
         return Err(Stop::Fault(FuseKind::Pad));
     }
     if !is_own {
         return Err(Stop::Fault(FuseKind::Name));
     }
     let pad = pad as u16;
-    file.ins.push(Port { pad, name })?;
-    Ok(moved(alloc, 4, file))
+    state.file.ins.push(Port { pad, name })?;
+    move_to(alloc, state, 4);
+    Ok(())
 }
 
 // The line of an output.
 fn add_out(
     alloc: Global,
     device: &Device,
-    state: FuseState,
+    state: &mut FuseState,
     pad: u32,
     name: Name,
     is_own: bool,
-) -> Result<FuseState, Stop<FuseKind>>
-    requires place { IsTrue (reading.may_follow state.place 5) }
-    requires own { is_own ≡ is_own_name (given_of state.file) state.file.clock (form.Out pad name) }
-    ensures { Gives result (reading.step device.now state (form.Out pad name)) }
+) -> Result<(), Stop<FuseKind>>
+    requires place { IsTrue (reading.may_follow state.old.place 5) }
+    requires own { is_own ≡ is_own_name (given_of state.old.file) state.old.file.clock (form.Out pad name) }
+    ensures { Takes (reading.step device.now state.old (form.Out pad name)) state.new result }
 {
-    let FuseState { mut file, .. } = state;
-    if !is_free_pad(device, &file, pad) {
+    if !is_free_pad(device, &state.file, pad) {
         return Err(Stop::Fault(FuseKind::Pad));
     }
     if !is_own {
         return Err(Stop::Fault(FuseKind::Name));
     }
     let pad = pad as u16;
-    file.outs.push(Port { pad, name })?;
-    Ok(moved(alloc, 5, file))
+    state.file.outs.push(Port { pad, name })?;
+    move_to(alloc, state, 5);
+    Ok(())
 }
 
 // The line of a start.
 fn add_start(
     alloc: Global,
     device: &Device,
-    state: FuseState,
+    state: &mut FuseState,
     spot: (u32, u32),
     init: u8,
     name: Name,
     is_own: bool,
-) -> Result<FuseState, Stop<FuseKind>>
-    requires place { IsTrue (reading.may_follow state.place 6) }
-    requires own { is_own ≡ is_own_name (given_of state.file) state.file.clock (form.Start spot.0 spot.1 init name) }
-    ensures { Gives result (reading.step device.now state (form.Start spot.0 spot.1 init name)) }
+) -> Result<(), Stop<FuseKind>>
+    requires place { IsTrue (reading.may_follow state.old.place 6) }
+    requires own { is_own ≡ is_own_name (given_of state.old.file) state.old.file.clock (form.Start spot.0 spot.1 init name) }
+    ensures { Takes (reading.step device.now state.old (form.Start spot.0 spot.1 init name)) state.new result }
 {
     let (row, column) = spot;
-    if !comes_after(&state, 6, &[row, column]) {
+    if !comes_after(state, 6, &[row, column]) {
         return Err(Stop::Fault(FuseKind::Order));
     }
     if row >= u32::from(device.rows) || column >= u32::from(device.columns) {
         return Err(Stop::Fault(FuseKind::Site));
     }
-    let FuseState { mut file, .. } = state;
     if !is_own {
         return Err(Stop::Fault(FuseKind::Name));
     }
@@ -222,22 +217,23 @@ fn add_start(
     let row = row as u8;
     let column = column as u8;
     let spot = Spot { row, column };
-    file.starts.push(StartAt { spot, init, name })?;
-    let place = 6;
-    Ok(FuseState { place, last, file })
+    state.file.starts.push(StartAt { spot, init, name })?;
+    state.last = last;
+    state.place = 6;
+    Ok(())
 }
 
 // The line of an antifuse.
 fn add_fuse(
     device: &Device,
-    state: FuseState,
+    state: &mut FuseState,
     numbers: Items<u32>,
     site: Option<Site>,
-) -> Result<FuseState, Stop<FuseKind>>
-    requires { IsTrue (reading.may_follow state.place 7) }
-    ensures { Gives result (reading.step device.now state (form.Fuse numbers site)) }
+) -> Result<(), Stop<FuseKind>>
+    requires { IsTrue (reading.may_follow state.old.place 7) }
+    ensures { Takes (reading.step device.now state.old (form.Fuse numbers site)) state.new result }
 {
-    if !comes_after(&state, 7, numbers.as_slice()) {
+    if !comes_after(state, 7, numbers.as_slice()) {
         return Err(Stop::Fault(FuseKind::Order));
     }
     let Some(site) = site else {
@@ -246,35 +242,37 @@ fn add_fuse(
     if !is_site(device, site) {
         return Err(Stop::Fault(FuseKind::Site));
     }
-    let FuseState { mut file, .. } = state;
-    file.sites.push(site)?;
-    let place = 7;
-    Ok(FuseState {
-        place,
-        last: numbers,
-        file,
-    })
+    state.file.sites.push(site)?;
+    state.last = numbers;
+    state.place = 7;
+    Ok(())
 }
 
-/// What a line of an antifuse file of the device does: the state with what the line says, or the
-/// least kind of what is wrong with it. Whether what the line names may have its name is told.
+/// What a line of an antifuse file of the device does: what the line says is added to the state, or the
+/// least kind of what is wrong with it is answered. Whether what the line names may have its name is told.
 pub fn step(
     alloc: Global,
     device: &Device,
-    state: FuseState,
+    state: &mut FuseState,
     line: FuseLine,
     is_own: bool,
-) -> Result<FuseState, Stop<FuseKind>>
-    requires { is_own ≡ is_own_name (given_of state.file) state.file.clock line }
-    ensures { Gives result (reading.step device.now state line) }
+) -> Result<(), Stop<FuseKind>>
+    requires { is_own ≡ is_own_name (given_of state.old.file) state.old.file.clock line }
+    ensures { Takes (reading.step device.now state.old line) state.new result }
 {
     if !may_follow(state.place, place_of(&line)) {
         return Err(Stop::Fault(FuseKind::Order));
     }
     match line {
-        FuseLine::Header => Ok(moved(alloc, 1, state.file)),
+        FuseLine::Header => {
+            move_to(alloc, state, 1);
+            Ok(())
+        }
         FuseLine::Device { name } => add_device(alloc, device, state, name),
-        FuseLine::Clock { name } => Ok(add_clock(alloc, state, name)),
+        FuseLine::Clock { name } => {
+            add_clock(alloc, state, name);
+            Ok(())
+        }
         FuseLine::In { pad, name } => add_in(alloc, device, state, pad, name, is_own),
         FuseLine::Out { pad, name } => add_out(alloc, device, state, pad, name, is_own),
         FuseLine::Start {
@@ -284,6 +282,9 @@ pub fn step(
             name,
         } => add_start(alloc, device, state, (row, column), init, name, is_own),
         FuseLine::Fuse { numbers, site } => add_fuse(device, state, numbers, site),
-        FuseLine::End => Ok(moved(alloc, 8, state.file)),
+        FuseLine::End => {
+            move_to(alloc, state, 8);
+            Ok(())
+        }
     }
 }

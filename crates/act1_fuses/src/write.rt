@@ -37,15 +37,23 @@ pub fn write_fuses(alloc: Global, file: &FuseFile) -> Result<Vec<u8>, Memory>
     ensures { IfOk result (λ text. text.items ≡ fuse_text file.now) }
 {
     let mut text = Vec::new(alloc);
-    text.extend_from_slice(b"act1 fuses 1\n")?;
-    write_device(&mut text, &file.device)?;
-    write_clock(&mut text, &file.clock)?;
-    write_ports(&mut text, b"in", file.ins.as_slice())?;
-    write_ports(&mut text, b"out", file.outs.as_slice())?;
-    write_starts(&mut text, file.starts.as_slice())?;
-    write_sites(&mut text, file.sites.as_slice())?;
-    text.extend_from_slice(b"end\n")?;
+    add_file(&mut text, file)?;
     Ok(text)
+}
+
+// Adds the text of a file.
+fn add_file(text: &mut Vec<u8>, file: &FuseFile) -> Result<(), Memory>
+    ensures { OnOk result (text.new.items ≡ text.old.items ++ fuse_text file.now) }
+{
+    text.extend_from_slice(b"act1 fuses 1\n")?;
+    write_device(text, &file.device)?;
+    write_clock(text, &file.clock)?;
+    write_ports(text, b"in", file.ins.as_slice())?;
+    write_ports(text, b"out", file.outs.as_slice())?;
+    write_starts(text, file.starts.as_slice())?;
+    write_sites(text, file.sites.as_slice())?;
+    text.extend_from_slice(b"end\n")?;
+    Ok(())
 }
 
 // Adds the device's line.

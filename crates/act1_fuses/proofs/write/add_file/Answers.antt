@@ -1,10 +1,9 @@
 use Rattle.act1_fuses.proofs.FileText.{text_of_file}
-use Rattle.act1_fuses.proofs.write.write_fuses.Goals as goal
+use Rattle.act1_fuses.proofs.write.add_file.Goals as goal
 
 pub returns : goal.returns
 returns c =
     text_of_file c.args.file.now _ _ _ _ _ _ _ _ _
-    c.new-text.ensures.items
     c.in_ok-extend_from_slice.ensures.items
     c.in_ok-write_device.ensures
     c.in_ok-write_clock.ensures
