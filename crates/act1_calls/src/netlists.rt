@@ -1,35 +1,54 @@
-use act1_blif::values;
-use act1_blifread::read_blif;
+use crate::input::{add_bit, inputs_of, netlist_of, vectors_of};
+use act1_blif::{Blif, values};
 use std::alloc::Global;
-use std::test::Fail;
+use std::rt::Files;
 
-// An off-set, a mark that asks nothing, and no rows: `y` is 0 where `a` and `b` are 1, `z` is `a`, and
-// `w` is 0.
-const THREE_NODES: &[u8] =
-    b".inputs a b\n.outputs y z w\n.names a b y\n11 0\n.names a b z\n1- 1\n.names w\n.end\n";
-
-// The values of all signals at two inputs, or none where the text isn't one of a netlist with two inputs
-// and no latch.
-fn values_at(alloc: Global, text: &[u8], inputs: [bool; 2]) -> Option<Vec<bool>> {
-    if text.len() > 1000 {
+// The values of all signals at the input vector of a number.
+fn values_at(alloc: Global, netlist: &Blif, number: u64) -> Option<Vec<bool>> {
+    let width = netlist.inputs.len();
+    if width > 6 || !netlist.latches.is_empty() {
         return None;
     }
-    let net = read_blif(alloc, text).ok()?;
-    if net.inputs.len() != 2 || !net.latches.is_empty() {
-        return None;
-    }
-    values(alloc, &net, &inputs, &[]).ok()
+    let inputs = inputs_of(alloc, number, width as u8)?;
+    values(alloc, netlist, &inputs, &[]).ok()
 }
 
-// Each node has the value of its cover at each of the four inputs.
-#[test]
-fn nodes_have_their_values(rt: HostRuntime) -> Result<(), Fail> {
-    for (a, b) in [(false, false), (false, true), (true, false), (true, true)] {
-        let wanted = [a, b, !(a && b), a, false];
-        match values_at(rt.alloc(), THREE_NODES, [a, b]) {
-            Some(values) => assert_eq!(rt; values.as_slice(), wanted.as_slice()),
-            None => assert!(rt; false, "a netlist of two inputs"),
-        }
+// Adds bits as a line, one character for each.
+fn add_bits(text: &mut String, bits: &[bool]) -> Option<()> {
+    for bit in bits {
+        add_bit(text, *bit)?;
     }
-    Ok(())
+    text.push('\n').ok()
+}
+
+// Adds the values of all signals at an input vector.
+fn add_values_at(alloc: Global, netlist: &Blif, number: u64, text: &mut String) -> Option<()> {
+    let values = values_at(alloc, netlist, number)?;
+    add_bits(text, &values)
+}
+
+// Adds the values of all signals at each input vector.
+fn add_values(alloc: Global, netlist: &Blif, text: &mut String) -> Option<()> {
+    let width = netlist.inputs.len();
+    if width > 6 {
+        return None;
+    }
+    for number in 0..vectors_of(width as u8) {
+        add_values_at(alloc, netlist, number, text)?;
+    }
+    Some(())
+}
+
+/// The row `values BLIF`.
+pub fn values_row<R: Files>(
+    rt: &R,
+    alloc: Global,
+    words: &[&str],
+    text: &mut String,
+) -> Option<()> {
+    let [blif] = words else {
+        return None;
+    };
+    let netlist = netlist_of(rt, alloc, blif)?;
+    add_values(alloc, &netlist, text)
 }

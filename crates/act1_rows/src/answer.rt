@@ -49,40 +49,50 @@ fn names_of(alloc: Global, setting: &Setting) -> Result<BTreeSet<String>, Fault>
     Ok(names)
 }
 
-// The files that aren't as they were.
+// A file that holds something else than it held, or that isn't there any more.
+fn change_of(alloc: Global, name: &str, after: Option<&[u8]>) -> Result<ChangedFile, Fault> {
+    let bytes = match after {
+        Some(bytes) => Some(Vec::from_slice(alloc, bytes)?),
+        None => None,
+    };
+    let name = String::from_str(alloc, name)?;
+    Ok(ChangedFile { name, bytes })
+}
+
+// The files that aren't as they were, by their names.
 fn changed(
     alloc: Global,
     setting: &Setting,
     files: &MemoryFiles,
 ) -> Result<Vec<ChangedFile>, Fault> {
-    let mut changed = Vec::new(alloc);
     let names = names_of(alloc, setting)?;
+    let mut changed = Vec::new(alloc);
     for name in &names {
         let before = setting
             .files
             .get(name.as_str())
             .map(|bytes| bytes.as_slice());
         let after = files.held(name.as_str());
-        if before == after {
-            continue;
+        if before != after {
+            changed.push(change_of(alloc, name.as_str(), after)?)?;
         }
-        let bytes = match after {
-            Some(bytes) => Some(Vec::from_slice(alloc, bytes)?),
-            None => None,
-        };
-        let name = name.clone()?;
-        changed.push(ChangedFile { name, bytes })?;
     }
     Ok(changed)
+}
+
+// The sink to which is printed, with the calls that are to fail.
+fn sink_of(alloc: Global, setting: &Setting) -> Result<MemorySink, Fault> {
+    let mut out = MemorySink::new(alloc);
+    for call in &setting.failing_prints {
+        out.fail(*call)?;
+    }
+    Ok(out)
 }
 
 /// Runs the words of a setting on its files. The error is want of memory.
 pub fn answer_of(alloc: Global, setting: &Setting) -> Result<Answer, Fault> {
     let mut files = files_of(alloc, setting)?;
-    let mut out = MemorySink::new(alloc);
-    for call in &setting.failing_prints {
-        out.fail(*call)?;
-    }
+    let mut out = sink_of(alloc, setting)?;
     let mut helpers = NoHelpers::new();
     let status = run(alloc, &setting.words, &mut files, &mut out, &mut helpers);
     Ok(Answer {

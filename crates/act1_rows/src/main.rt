@@ -35,7 +35,7 @@ mod text;
 
 use fault::{Fault, Stop};
 use play::play_row;
-use rows::read_rows;
+use rows::{NumberedLine, Row, read_rows};
 use setting::data_file;
 use std::alloc::{AllocError, Global};
 use std::process::ExitCode;
@@ -50,18 +50,44 @@ fn words<R: Env + AllocGlobal>(rt: &R) -> Result<Vec<String>, AllocError> {
     }
 }
 
-// Plays the rows of a file, and prints each as it is played.
+// Plays a row, and prints it.
+fn print_row<R: Files + Print>(
+    rt: &R,
+    alloc: Global,
+    head: &[NumberedLine<'_>],
+    row: &Row<'_>,
+) -> Result<(), Stop> {
+    let mut text = String::new(alloc);
+    play_row(rt, alloc, head, row, &mut text)?;
+    print(rt, text.as_str())?;
+    Ok(())
+}
+
+// Plays the rows of a text, and prints each as it is played.
+fn play_text<R: Files + Print>(rt: &R, alloc: Global, text: &str) -> Result<(), Stop> {
+    let rows = read_rows(alloc, text)?;
+    for row in &rows.rows {
+        print_row(rt, alloc, &rows.head, row)?;
+    }
+    Ok(())
+}
+
+// Plays the rows of a file.
 fn play_file<R: Files + Print>(rt: &R, alloc: Global, name: &str) -> Result<(), Stop> {
     let bytes = data_file(rt, alloc, name)?;
     let Ok(text) = str::from_utf8(&bytes) else {
         return Err(Stop::from(Fault::Form));
     };
-    let rows = read_rows(alloc, text)?;
-    print(rt, format!(in alloc; "== {name}\n")?.as_str())?;
-    for row in &rows.rows {
-        print(rt, play_row(rt, alloc, &rows.head, row)?.as_str())?;
+    print_title(rt, name)?;
+    play_text(rt, alloc, text)
+}
+
+// Prints the name of a file of rows.
+fn print_title(rt: &impl Print, name: &str) -> Result<(), Fault> {
+    match println!(rt; "== {name}") {
+        Ok(()) => Ok(()),
+        Err(_) => Err(Fault::Print),
     }
-    Ok(())
 }
 
 // Prints a text.

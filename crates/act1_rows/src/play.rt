@@ -73,6 +73,23 @@ fn show_range(out: &mut String, range: &CutRange) -> Result<(), AllocError> {
     }
 }
 
+// What a setting's run answers, in one line.
+fn short_of(alloc: Global, setting: &Setting) -> Result<String, Fault> {
+    let answer = answer_of(alloc, setting)?;
+    Ok(short_answer(alloc, &answer)?)
+}
+
+// What the run answers on a front of the file of this name, in one line.
+fn front_answer(
+    alloc: Global,
+    setting: &mut Setting,
+    name: &str,
+    front: &[u8],
+) -> Result<String, Fault> {
+    setting.set_file(name, front)?;
+    short_of(alloc, setting)
+}
+
 // Adds a line for each range of fronts of a file that have one answer.
 fn play_cuts(
     alloc: Global,
@@ -85,11 +102,8 @@ fn play_cuts(
     };
     let mut range: Option<CutRange> = None;
     for length in 0..=whole.len() {
-        let front = Vec::from_slice(alloc, &whole[..length])?;
-        setting.files.insert(String::from_str(alloc, name)?, front)?;
-        let answer = short_answer(alloc, &answer_of(alloc, setting)?)?;
-        let cut = length as u64;
-        range = Some(next_range(out, range, cut, answer)?);
+        let answer = front_answer(alloc, setting, name, &whole[..length])?;
+        range = Some(next_range(out, range, length as u64, answer)?);
     }
     match &range {
         Some(range) => Ok(show_range(out, range)?),
@@ -121,26 +135,52 @@ fn next_range(
     })
 }
 
-/// Plays a row behind the lines that hold for every row of its file, and gives what is shown of it. An
+// Adds the line of a case.
+fn play_case<R: Files>(
+    rt: &R,
+    alloc: Global,
+    head: &[NumberedLine<'_>],
+    row: &Row<'_>,
+    case: &str,
+    out: &mut String,
+) -> Result<(), Stop> {
+    let setting = setting_of(rt, alloc, head, row, case)?;
+    let answer = short_of(alloc, &setting)?;
+    writeln!(out, "{case} => {answer}")?;
+    Ok(())
+}
+
+// Adds what is shown of a row without cases.
+fn play_whole<R: Files>(
+    rt: &R,
+    alloc: Global,
+    head: &[NumberedLine<'_>],
+    row: &Row<'_>,
+    out: &mut String,
+) -> Result<(), Stop> {
+    let mut setting = setting_of(rt, alloc, head, row, "")?;
+    match row.cuts {
+        Some(name) => play_cuts(alloc, &mut setting, name, out)?,
+        None => show_answer(out, &answer_of(alloc, &setting)?)?,
+    }
+    Ok(())
+}
+
+/// Plays a row behind the lines that hold for every row of its file, and adds what is shown of it. An
 /// error says at which line the row can't be played.
 pub fn play_row<R: Files>(
     rt: &R,
     alloc: Global,
     head: &[NumberedLine<'_>],
     row: &Row<'_>,
-) -> Result<String, Stop> {
-    let mut out = format!(in alloc; "\n-- {}\n", row.name)?;
+    out: &mut String,
+) -> Result<(), Stop> {
+    writeln!(out, "\n-- {}", row.name)?;
     for case in &row.cases {
-        let setting = setting_of(rt, alloc, head, row, case)?;
-        let answer = short_answer(alloc, &answer_of(alloc, &setting)?)?;
-        writeln!(out, "{case} => {answer}")?;
+        play_case(rt, alloc, head, row, case, out)?;
     }
     if row.cases.is_empty() {
-        let mut setting = setting_of(rt, alloc, head, row, "")?;
-        match row.cuts {
-            Some(name) => play_cuts(alloc, &mut setting, name, &mut out)?,
-            None => show_answer(&mut out, &answer_of(alloc, &setting)?)?,
-        }
+        play_whole(rt, alloc, head, row, out)?;
     }
-    Ok(out)
+    Ok(())
 }

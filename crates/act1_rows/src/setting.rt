@@ -57,6 +57,16 @@ fn first_word(text: &str) -> (&str, &str) {
     }
 }
 
+// The word that a word of rows stands for.
+fn word_of(alloc: Global, word: &str) -> Result<String, Fault> {
+    let mut bytes = Vec::new(alloc);
+    read_word(word, &mut bytes)?;
+    match String::from_utf8(bytes) {
+        Ok(word) => Ok(word),
+        Err(_) => Err(Fault::Form),
+    }
+}
+
 // The bytes that a word stands for, so many times.
 fn repeated(alloc: Global, count: u64, word: &str) -> Result<Vec<u8>, Fault> {
     let mut piece = Vec::new(alloc);
@@ -122,12 +132,8 @@ impl Setting {
             return Ok(());
         }
         for word in words.split(' ') {
-            let mut bytes = Vec::new(self.alloc);
-            read_word(word, &mut bytes)?;
-            match String::from_utf8(bytes) {
-                Ok(word) => self.words.push(word)?,
-                Err(_) => return Err(Fault::Form),
-            }
+            let word = word_of(self.alloc, word)?;
+            self.words.push(word)?;
         }
         Ok(())
     }
@@ -137,8 +143,14 @@ impl Setting {
         let (name, content) = first_word(words);
         let bytes = self.content(rt, content)?;
         self.last = String::from_str(self.alloc, name)?;
-        self.files
-            .insert(String::from_str(self.alloc, name)?, bytes)?;
+        self.set_file(name, &bytes)
+    }
+
+    /// Lets the file of this name hold these bytes.
+    pub fn set_file(&mut self, name: &str, bytes: &[u8]) -> Result<(), Fault> {
+        let name = String::from_str(self.alloc, name)?;
+        let bytes = Vec::from_slice(self.alloc, bytes)?;
+        self.files.insert(name, bytes)?;
         Ok(())
     }
 

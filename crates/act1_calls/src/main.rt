@@ -1,0 +1,109 @@
+//! Calls that no command reaches, made on files of data: the program prints what they answer.
+//!
+//! The words of the command line are the names of files of rows. In such a file each line is a row, whose
+//! words are parted by one blank; a line that is empty or begins with `#` says nothing. Each row is printed,
+//! and under it what it gives. A BLIF file stands for the first cover of its netlist where a row speaks of a
+//! cover, and a diagram's forks are counted with a limit of 10,000 where a row has none.
+//!
+//! | Row | What it gives |
+//! |---|---|
+//! | `number WORD N` | the number that a word spells, if it is at most N |
+//! | `values BLIF` | the values of all signals at each input vector, of a netlist without latches and with at most six inputs |
+//! | `table BLIF` | the values of a cover with at most six inputs, at all inputs, by its rows, by its diagram and by one module, if there is one |
+//! | `limit BLIF N` | whether the diagram of a cover has at most N forks, or how many first rows have more |
+//! | `same BLIF BLIF` | whether two covers have one diagram |
+//! | `choice V BLIF BLIF BLIF` | whether the second cover where variable V is 0, and the first where it is 1, is the third |
+//! | `fixed BLIF V B BLIF` | whether the first cover, with variable V fixed as B, is the second |
+//! | `root BLIF` | the variable that the diagram of a cover asks first, and its two parts |
+//! | `count V` | how many of all tables of V variables, at most four, one module can be |
+//! | `scattered N` | how many of N tables of six variables one module can be: every other one is made of pins, the others have scattered bits |
+//! | `diagrams BLIF N COUNT` | how many of so many diagrams of a cover, each with forks of its own, have at most N forks |
+//! | `written DEVICE FUSES` | the antifuse file as it is written |
+//! | `filled B DEVICE FUSES VECTORS` | the outputs where each module without a start of 0 or 1 begins with B |
+#![tactic(auto)]
+
+mod arrays;
+mod covers;
+mod diagrams;
+mod input;
+mod netlists;
+mod tables;
+
+use input::{bytes_of, number_row};
+use std::alloc::{AllocError, Global};
+use std::fmt::Write;
+use std::process::ExitCode;
+use std::rt::{Env, Files};
+use std::{env, str};
+
+// The words after the program's name: none where they can't be had.
+fn words<R: Env + AllocGlobal>(rt: &R) -> Result<Vec<String>, AllocError> {
+    match env::args(rt) {
+        Ok(args) => args.skip(1).collect(rt.alloc()),
+        Err(_) => Ok(Vec::new(rt.alloc())),
+    }
+}
+
+// Adds what a row gives: `None` where it is no row, its files aren't what it asks for, or there is no memory.
+fn add_given<R: Files>(rt: &R, alloc: Global, words: &[&str], text: &mut String) -> Option<()> {
+    let (kind, words) = words.split_first()?;
+    match *kind {
+        "number" => number_row(words, text),
+        "values" => netlists::values_row(rt, alloc, words, text),
+        "table" => covers::table_row(rt, alloc, words, text),
+        "limit" => covers::limit_row(rt, alloc, words, text),
+        "diagrams" => covers::count_row(rt, alloc, words, text),
+        "same" => diagrams::same_row(rt, alloc, words, text),
+        "choice" => diagrams::choice_row(rt, alloc, words, text),
+        "fixed" => diagrams::fixed_row(rt, alloc, words, text),
+        "root" => diagrams::root_row(rt, alloc, words, text),
+        "count" => tables::count_row(words, text),
+        "scattered" => tables::scattered_row(words, text),
+        "written" => arrays::written_row(rt, alloc, words, text),
+        "filled" => arrays::filled_row(rt, alloc, words, text),
+        _ => None,
+    }
+}
+
+// Adds a row and what it gives.
+fn add_row<R: Files>(rt: &R, alloc: Global, row: &str, text: &mut String) -> Option<()> {
+    writeln!(text, "{row}").ok()?;
+    let words: Vec<&str> = row.split(' ').collect(alloc).ok()?;
+    add_given(rt, alloc, &words, text)
+}
+
+// Plays a row: prints it and what it gives.
+fn play_row<R: Files + Print>(rt: &R, alloc: Global, row: &str) -> Option<()> {
+    let mut text = String::new(alloc);
+    add_row(rt, alloc, row, &mut text)?;
+    print!(rt; "{text}").ok()
+}
+
+// Plays the rows of a text, up to the first that can't be played, which is printed as such.
+fn play_rows<R: Files + Print>(rt: &R, alloc: Global, text: &str) -> Option<()> {
+    for row in text.lines() {
+        if !row.is_empty() && !row.starts_with('#') && play_row(rt, alloc, row).is_none() {
+            let _ = println!(rt; "no row: {row}");
+            return None;
+        }
+    }
+    Some(())
+}
+
+// Plays the rows of a file.
+fn play_file<R: Files + Print>(rt: &R, alloc: Global, name: &str) -> Option<()> {
+    let bytes = bytes_of(rt, alloc, name)?;
+    play_rows(rt, alloc, str::from_utf8(&bytes).ok()?)
+}
+
+fn main(rt: HostRuntime) -> ExitCode {
+    let Ok(names) = words(&rt) else {
+        return ExitCode::from(1);
+    };
+    for name in &names {
+        if play_file(&rt, rt.alloc(), name).is_none() {
+            return ExitCode::from(1);
+        }
+    }
+    ExitCode::from(0)
+}
