@@ -1,5 +1,6 @@
 pub mod AntifuseTexts
 pub mod Basics
+pub mod Channels
 pub mod Circuits
 pub mod Devices
 pub mod Diagrams
@@ -8,6 +9,7 @@ pub mod Matches
 pub mod Modules
 pub mod NetlistTexts
 pub mod Netlists
+pub mod Refutations
 pub mod RingArrays
 pub mod Simulations
 pub mod SoundArrays

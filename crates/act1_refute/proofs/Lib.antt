@@ -1,0 +1,4 @@
+pub mod ConflictLemmas
+pub mod HintLemmas
+pub mod StatusLemmas
+pub mod VerdictLemmas

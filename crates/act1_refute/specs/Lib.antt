@@ -1,0 +1,3 @@
+pub mod HintSteps
+pub mod StatusSteps
+pub mod Verdict
