@@ -5,6 +5,7 @@ pub mod Circuits
 pub mod Devices
 pub mod Diagrams
 pub mod HeldLatch
+pub mod JobTexts
 pub mod Matches
 pub mod Modules
 pub mod NetlistTexts
@@ -15,6 +16,7 @@ pub mod Simulations
 pub mod SoundArrays
 pub mod SpoiltFiles
 pub mod Statements
+pub mod TableLines
 pub mod UnsoundArrays
 pub mod WholeNetlists
 pub mod WrongSources

@@ -1,0 +1,4 @@
+pub mod JobLines
+pub mod JobSteps
+pub mod JobWrites
+pub mod JobTexts

@@ -1,0 +1,16 @@
+//! The text of a job: a channel problem and the budget of its search, as a helper is given them.
+#![tactic(auto)]
+
+mod fault;
+mod job;
+mod line;
+mod read;
+mod rules;
+mod step;
+mod table;
+mod write;
+
+pub use fault::JobFault;
+pub use job::{Connection, Job, Problem};
+pub use read::read_job;
+pub use write::job_text;

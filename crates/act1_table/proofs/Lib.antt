@@ -1,0 +1,10 @@
+pub mod ExactLaws
+pub mod FormatLaws
+pub mod LineLaws
+pub mod NumberLaws
+pub mod PartLaws
+pub mod PlainLaws
+pub mod WordBytes
+pub mod WordCounts
+pub mod WordLaws
+pub mod WriteLaws

@@ -1,0 +1,11 @@
+pub mod Clear
+pub mod Exact
+pub mod Formats
+pub mod Forms
+pub mod Laws
+pub mod Lines
+pub mod Reads
+pub mod ReadSteps
+pub mod Table
+pub mod Values
+pub mod WriteSteps
