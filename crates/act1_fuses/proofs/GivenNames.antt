@@ -17,7 +17,8 @@ use Rattle.act1_fuses.specs.declared.fuses.Port.{Port}
 use Rattle.act1_fuses.specs.declared.fuses.StartAt.{StartAt}
 use Rattle.act1_fuses.specs.declared.given.GivenNames.{GivenNames}
 use Rattle.act1_fuses.specs.Given.{given_of, is_own_name, given_with, is_among, is_clock}
-use Rattle.act1_fuses.specs.Reading.{is_free_pad, may_follow, comes_after, rules_of, fault_of, file_with, step, Takes}
+use Rattle.act1_fuses.specs.Reading.{is_free_pad, may_follow, comes_after, rules_of, fault_of, file_with, step}
+use Rattle.act1_fuses.specs.ReadingSteps.{Takes}
 use Rattle.act1_fuses.specs.Rules.{port_names, start_names}
 use Rattle.act1_fuses.proofs.ReadStates.{passed, stepped}
 

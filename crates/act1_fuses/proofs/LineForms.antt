@@ -14,7 +14,7 @@ use Rattle.act1_device.specs.declared.device.Line.TheVariants as line
 use Rattle.act1_device.specs.Order.{track_number, line_numbers, site_numbers}
 use Rattle.act1_fuses.specs.declared.form.FuseLine.{FuseLine}
 use Rattle.act1_fuses.specs.declared.form.FuseLine.TheVariants as form
-use Rattle.act1_fuses.specs.Forms.{number, is_track, track_order, is_small, track_of, place_among, pin_number, pin_at, out_at, long_at, pad_at, crossing, along, along_fuse, pin_fuse, out_fuse, long_fuse, pad_fuse, is_fuse, is_init, form_of, form_of_one, form_of_two, form_of_three, form_of_five, form_of_six, form_of_seven}
+use Rattle.act1_fuses.specs.Forms.{number, is_track, track_order, is_small, track_of, place_among, pin_number, pin_at, out_at, long_at, pad_at, crossing, along, along_fuse, pin_fuse, out_fuse, long_fuse, pad_fuse, is_fuse, is_init, or_line, end_of, device_of, clock_of, form_of_two, header_of, input_of, output_of, port_of, form_of_three, start_of, along_of, pad_of, short_fuse_of, form_of_five, out_of, long_of, form_of_six, pin_of, form_of}
 use Rattle.act1_device.specs.Pins.{pin_names, pin_name}
 use Rattle.act1_fuses.specs.Text.{track_word, line_words, site_words}
 
@@ -76,6 +76,11 @@ one_of words b x o y first rest e = by (chosen b x o y e)
 
 no_more : (words : List (List ℕ)) (y : FuseLine) → None ≡ Some y → Reads words y
 no_more words y e = cc
+
+-- the first of two lines
+or_said : (words : List (List ℕ)) (one other : Option FuseLine) (l : FuseLine) → (one ≡ Some l → Reads words l) → (other ≡ Some l → Reads words l) → or_line one other ≡ Some l → Reads words l
+or_said words (Some x) other l first rest e = first e
+or_said words None other l first rest e = rest e
 
 same_word : (a b : List ℕ) → IsTrue (bytes_eq a b) → a ≡ b
 same_word a b h = (bytes_eq-Decides a b).0 h
@@ -196,16 +201,17 @@ fuse_begins words word c t l h then =
 in_place : (a b : List ℕ) (words : List ℕ → List (List ℕ)) (l : FuseLine) → IsTrue (bytes_eq a b) → Reads (words b) l → Reads (words a) l
 in_place a b words l h r = subst (λ (w : List ℕ). Reads (words w) l) (sym (same_word a b h)) r
 
-one_said : (a : List ℕ) (l : FuseLine) → form_of_one a ≡ Some l → Reads (a ∷ []) l
+one_said : (a : List ℕ) (l : FuseLine) → end_of a ≡ Some l → Reads (a ∷ []) l
 one_said a l = one_of (a ∷ []) (bytes_eq a (codes "end")) form.End None l (λ h. in_place a (codes "end") (λ w. w ∷ []) form.End h (tt, λ f. refl)) (no_more (a ∷ []) l)
+
+named_said : (a word b : List ℕ) (l : FuseLine) → IsTrue (bytes_eq a word && is_name b) → (IsTrue (is_name b) → Reads (word ∷ b ∷ []) l) → Reads (a ∷ b ∷ []) l
+named_said a word b l h then = let p = both (bytes_eq a word) (is_name b) h in in_place a word (λ w. w ∷ b ∷ []) l p.0 (then p.1)
 
 two_said : (a b : List ℕ) (l : FuseLine) → form_of_two a b ≡ Some l → Reads (a ∷ b ∷ []) l
 two_said a b l =
-    one_of (a ∷ b ∷ []) (bytes_eq a (codes "device") && is_name b) (form.Device b) _ l
-    (λ h. let p = both (bytes_eq a (codes "device")) (is_name b) h in in_place a (codes "device") (λ w. w ∷ b ∷ []) (form.Device b) p.0 (p.1, λ f. refl))
-    (one_of (a ∷ b ∷ []) (bytes_eq a (codes "clock") && is_name b) (form.Clock b) None l
-    (λ h. let p = both (bytes_eq a (codes "clock")) (is_name b) h in in_place a (codes "clock") (λ w. w ∷ b ∷ []) (form.Clock b) p.0 (p.1, λ f. refl))
-    (no_more (a ∷ b ∷ []) l))
+    or_said (a ∷ b ∷ []) (device_of a b) (clock_of a b) l
+    (one_of (a ∷ b ∷ []) (bytes_eq a (codes "device") && is_name b) (form.Device b) None l (λ h. named_said a (codes "device") b (form.Device b) h (λ fine. (fine, λ f. refl))) (no_more (a ∷ b ∷ []) l))
+    (one_of (a ∷ b ∷ []) (bytes_eq a (codes "clock") && is_name b) (form.Clock b) None l (λ h. named_said a (codes "clock") b (form.Clock b) h (λ fine. (fine, λ f. refl))) (no_more (a ∷ b ∷ []) l))
 
 port_said : (a word b c : List ℕ) (l : FuseLine) → IsTrue (bytes_eq a word && is_number b && is_name c) → (IsTrue (is_number b) → IsTrue (is_name c) → Reads (word ∷ b ∷ c ∷ []) l) → Reads (a ∷ b ∷ c ∷ []) l
 port_said a word b c l h then =
@@ -213,16 +219,23 @@ port_said a word b c l h then =
     let inner = both (bytes_eq a word) (is_number b) outer.0 in
     in_place a word (λ w. w ∷ b ∷ c ∷ []) l inner.0 (then inner.1 outer.1)
 
-three_said : (a b c : List ℕ) (l : FuseLine) → form_of_three a b c ≡ Some l → Reads (a ∷ b ∷ c ∷ []) l
-three_said a b c l =
-    one_of (a ∷ b ∷ c ∷ []) (bytes_eq a (codes "act1") && bytes_eq b (codes "fuses") && bytes_eq c (codes "1")) form.Header _ l
+header_said : (a b c : List ℕ) (l : FuseLine) → header_of a b c ≡ Some l → Reads (a ∷ b ∷ c ∷ []) l
+header_said a b c l =
+    one_of (a ∷ b ∷ c ∷ []) (bytes_eq a (codes "act1") && bytes_eq b (codes "fuses") && bytes_eq c (codes "1")) form.Header None l
     (λ h.
     let outer = both (bytes_eq a (codes "act1") && bytes_eq b (codes "fuses")) (bytes_eq c (codes "1")) h in
     let inner = both (bytes_eq a (codes "act1")) (bytes_eq b (codes "fuses")) outer.0 in
     in_place a (codes "act1") (λ w. w ∷ b ∷ c ∷ []) form.Header inner.0
     (in_place b (codes "fuses") (λ w. codes "act1" ∷ w ∷ c ∷ []) form.Header inner.1 (in_place c (codes "1") (λ w. codes "act1" ∷ codes "fuses" ∷ w ∷ []) form.Header outer.1 (tt, λ f. refl))))
-    (one_of (a ∷ b ∷ c ∷ []) (bytes_eq a (codes "in") && is_number b && is_name c) (form.In (number b) c) _ l
+    (no_more (a ∷ b ∷ c ∷ []) l)
+
+three_said : (a b c : List ℕ) (l : FuseLine) → form_of_three a b c ≡ Some l → Reads (a ∷ b ∷ c ∷ []) l
+three_said a b c l =
+    or_said (a ∷ b ∷ c ∷ []) (header_of a b c) (port_of a b c) l (header_said a b c l)
+    (or_said (a ∷ b ∷ c ∷ []) (input_of a b c) (output_of a b c) l
+    (one_of (a ∷ b ∷ c ∷ []) (bytes_eq a (codes "in") && is_number b && is_name c) (form.In (number b) c) None l
     (λ h. port_said a (codes "in") b c (form.In (number b) c) h (λ ib ic. (ic, λ f. ap (λ (w : List ℕ). codes "in" ∷ w ∷ c ∷ []) (spelled b ib f))))
+    (no_more (a ∷ b ∷ c ∷ []) l))
     (one_of (a ∷ b ∷ c ∷ []) (bytes_eq a (codes "out") && is_number b && is_name c) (form.Out (number b) c) None l
     (λ h. port_said a (codes "out") b c (form.Out (number b) c) h (λ ib ic. (ic, λ f. ap (λ (w : List ℕ). codes "out" ∷ w ∷ c ∷ []) (spelled b ib f))))
     (no_more (a ∷ b ∷ c ∷ []) l)))
@@ -256,9 +269,11 @@ fuse_of_five a b c d e form_word l h then =
 
 five_said : (a b c d e : List ℕ) (l : FuseLine) → form_of_five a b c d e ≡ Some l → Reads (a ∷ b ∷ c ∷ d ∷ e ∷ []) l
 five_said a b c d e l =
-    one_of (a ∷ b ∷ c ∷ d ∷ e ∷ []) _ (form.Start (number b) (number c) (number d) e) _ l (start_said a b c d e)
-    (one_of (a ∷ b ∷ c ∷ d ∷ e ∷ []) _ (along_fuse b c e) _ l
-    (λ h. fuse_of_five a b c d e (codes "along") (along_fuse b c e) h (λ ib ic ie. along_said b c e (track_of c) _ ib ic ie refl refl))
+    or_said (a ∷ b ∷ c ∷ d ∷ e ∷ []) (start_of a b c d e) (short_fuse_of a b c d e) l
+    (one_of (a ∷ b ∷ c ∷ d ∷ e ∷ []) _ (form.Start (number b) (number c) (number d) e) None l (start_said a b c d e) (no_more (a ∷ b ∷ c ∷ d ∷ e ∷ []) l))
+    (or_said (a ∷ b ∷ c ∷ d ∷ e ∷ []) (along_of a b c d e) (pad_of a b c d e) l
+    (one_of (a ∷ b ∷ c ∷ d ∷ e ∷ []) _ (along_fuse b c e) None l
+    (λ h. fuse_of_five a b c d e (codes "along") (along_fuse b c e) h (λ ib ic ie. along_said b c e (track_of c) _ ib ic ie refl refl)) (no_more (a ∷ b ∷ c ∷ d ∷ e ∷ []) l))
     (one_of (a ∷ b ∷ c ∷ d ∷ e ∷ []) _ (pad_fuse b c e) None l
     (λ h. fuse_of_five a b c d e (codes "pad") (pad_fuse b c e) h (λ ib ic ie. crossing_said b c (codes "pad" ∷ e ∷ []) (4 ∷ number e ∷ []) (track_of c) (pad_at (number e)) _ ib ic refl refl (pad_small e _ refl ie)))
     (no_more (a ∷ b ∷ c ∷ d ∷ e ∷ []) l)))
@@ -273,15 +288,17 @@ fuse_of_six a b c d e f form_word l h then =
 
 six_said : (a b c d e f : List ℕ) (l : FuseLine) → form_of_six a b c d e f ≡ Some l → Reads (a ∷ b ∷ c ∷ d ∷ e ∷ f ∷ []) l
 six_said a b c d e f l =
-    one_of (a ∷ b ∷ c ∷ d ∷ e ∷ f ∷ []) _ (out_fuse b c e f) _ l
+    or_said (a ∷ b ∷ c ∷ d ∷ e ∷ f ∷ []) (out_of a b c d e f) (long_of a b c d e f) l
+    (one_of (a ∷ b ∷ c ∷ d ∷ e ∷ f ∷ []) _ (out_fuse b c e f) None l
     (λ h. fuse_of_six a b c d e f (codes "out") (out_fuse b c e f) h (λ ib ic ie i. crossing_said b c (codes "out" ∷ e ∷ f ∷ []) (2 ∷ number e ∷ number f ∷ []) (track_of c) (out_at (number e) (number f)) _ ib ic refl refl
     (two_small e f [] (line.Out (number e) (number f)) (2 ∷ number e ∷ number f ∷ []) _ refl ie i (λ x y. codes "out" ∷ x ∷ y ∷ []) refl refl)))
+    (no_more (a ∷ b ∷ c ∷ d ∷ e ∷ f ∷ []) l))
     (one_of (a ∷ b ∷ c ∷ d ∷ e ∷ f ∷ []) _ (long_fuse b c e f) None l
     (λ h. fuse_of_six a b c d e f (codes "long") (long_fuse b c e f) h (λ ib ic ie i. crossing_said b c (codes "long" ∷ e ∷ f ∷ []) (3 ∷ number e ∷ number f ∷ []) (track_of c) (long_at (number e) (number f)) _ ib ic refl refl
     (two_small e f [] (line.Long (number e) (number f)) (3 ∷ number e ∷ number f ∷ []) _ refl ie i (λ x y. codes "long" ∷ x ∷ y ∷ []) refl refl)))
     (no_more (a ∷ b ∷ c ∷ d ∷ e ∷ f ∷ []) l))
 
-seven_said : (a b c d e f g : List ℕ) (pin : Option ℕ) (l : FuseLine) → pin_number g ≡ pin → form_of_seven a b c d e f pin ≡ Some l → Reads (a ∷ b ∷ c ∷ d ∷ e ∷ f ∷ g ∷ []) l
+seven_said : (a b c d e f g : List ℕ) (pin : Option ℕ) (l : FuseLine) → pin_number g ≡ pin → pin_of a b c d e f pin ≡ Some l → Reads (a ∷ b ∷ c ∷ d ∷ e ∷ f ∷ g ∷ []) l
 seven_said a b c d e f g None l is e0 = cc
 seven_said a b c d e f g (Some pin) l is e0 =
     one_of (a ∷ b ∷ c ∷ d ∷ e ∷ f ∷ g ∷ []) _ (pin_fuse b c e f pin) None l

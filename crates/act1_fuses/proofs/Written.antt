@@ -23,7 +23,7 @@ use Rattle.act1_device.specs.Order.{track_number, site_numbers}
 use Rattle.act1_fuses.specs.declared.form.FuseLine.{FuseLine}
 use Rattle.act1_fuses.specs.declared.form.FuseLine.TheVariants as form
 use Rattle.act1_fuses.proofs.Fields.{TrackFits, SiteFits}
-use Rattle.act1_fuses.specs.Forms.{number, is_track, track_order, is_small, track_of, pin_number, crossing, along, is_fuse, is_init, form_of, form_of_seven}
+use Rattle.act1_fuses.specs.Forms.{number, is_track, track_order, is_small, track_of, pin_number, crossing, along, is_fuse, is_init, or_line, form_of, pin_of}
 use Rattle.act1_device.specs.Pins.{pin_name}
 use Rattle.act1_fuses.specs.Text.{track_word, site_words}
 
@@ -42,6 +42,14 @@ first false x o h = cc
 other : {X : Type 0} (b : Bool) (x o : X) → b ≡ false → cond b x o ≡ o
 other true x o h = cc
 other false x o h = refl
+
+first_line : (b : Bool) (x : FuseLine) (o : Option FuseLine) → IsTrue b → or_line (cond b (Some x) None) o ≡ Some x
+first_line true x o h = refl
+first_line false x o h = cc
+
+other_line : (b : Bool) (x : FuseLine) (o : Option FuseLine) → b ≡ false → or_line (cond b (Some x) None) o ≡ o
+other_line true x o h = cc
+other_line false x o h = refl
 
 small : (n : ℕ) → n ≤ 255 → IsTrue (is_small n)
 small n h = grind (arith, nat_tests)
@@ -168,7 +176,7 @@ with_words false b c h k m = cc
 -- the words of a site are read as that site
 pub site_form : (site : Site) → SiteFits site → form_of (site_words site) ≡ Some (form.Fuse (site_numbers site) (Some site))
 site_form (Along c t i) h =
-    first (is_fuse (codes "fuse") (decimal c) (decimal t) && true && is_number (decimal i)) _ _ (with_word _ (is_number (decimal i)) (fuse_starts c (track.Signal t) h.0 h.1) (is_number_of i (omega (arith, h.2))))
+    first_line (is_fuse (codes "fuse") (decimal c) (decimal t) && true && is_number (decimal i)) _ _ (with_word _ (is_number (decimal i)) (fuse_starts c (track.Signal t) h.0 h.1) (is_number_of i (omega (arith, h.2))))
     ∙ ap (λ (x : ℕ). Some (form.Fuse (x ∷ track_order (decimal t) ∷ 0 ∷ number (decimal i) ∷ []) (along x (track_of (decimal t)) (number (decimal i))))) (number_of c (omega (arith, h.0)))
     ∙ ap (λ (x : ℕ). Some (form.Fuse (c ∷ track_order (decimal t) ∷ 0 ∷ x ∷ []) (along c (track_of (decimal t)) x))) (number_of i (omega (arith, h.2)))
     ∙ ap (λ (x : ℕ). Some (form.Fuse (c ∷ x ∷ 0 ∷ i ∷ []) (along c (track_of (decimal t)) i))) (order_of (track.Signal t) h.1)
@@ -177,7 +185,7 @@ site_form (Along c t i) h =
 site_form (Cross c t (line.Pin r k pin)) h =
     let er = number_of r (omega (arith, h.2.0)) in
     let ek = number_of k (omega (arith, h.2.1)) in
-    ap (λ (x : Option ℕ). form_of_seven (codes "fuse") (decimal c) (track_word t) (codes "pin") (decimal r) (decimal k) x) (pin_found pin h.2.2)
+    ap (λ (x : Option ℕ). pin_of (codes "fuse") (decimal c) (track_word t) (codes "pin") (decimal r) (decimal k) x) (pin_found pin h.2.2)
     ∙ first (is_fuse (codes "fuse") (decimal c) (track_word t) && true && is_number (decimal r) && is_number (decimal k)) _ _
     (with_words _ (is_number (decimal r)) (is_number (decimal k)) (fuse_starts c t h.0 h.1) (is_number_of r (omega (arith, h.2.0))) (is_number_of k (omega (arith, h.2.1))))
     ∙ crossed_is c (number (decimal c)) t _ _ _ (line.Pin r k pin) (number_of c (omega (arith, h.0))) h.0 h.1 (two_numbers 1 r k (number (decimal r)) (number (decimal k)) (pin ∷ []) er ek)
@@ -185,21 +193,21 @@ site_form (Cross c t (line.Pin r k pin)) h =
 site_form (Cross c t (line.Out r k)) h =
     let er = number_of r (omega (arith, h.2.0)) in
     let ek = number_of k (omega (arith, h.2.1)) in
-    first (is_fuse (codes "fuse") (decimal c) (track_word t) && true && is_number (decimal r) && is_number (decimal k)) _ _
+    first_line (is_fuse (codes "fuse") (decimal c) (track_word t) && true && is_number (decimal r) && is_number (decimal k)) _ _
     (with_words _ (is_number (decimal r)) (is_number (decimal k)) (fuse_starts c t h.0 h.1) (is_number_of r (omega (arith, h.2.0))) (is_number_of k (omega (arith, h.2.1))))
     ∙ crossed_is c (number (decimal c)) t _ _ _ (line.Out r k) (number_of c (omega (arith, h.0))) h.0 h.1 (two_numbers 2 r k (number (decimal r)) (number (decimal k)) [] er ek)
     (two_found r k (number (decimal r)) (number (decimal k)) (λ x y. line.Out x y) er ek h.2.0 h.2.1)
 site_form (Cross c t (line.Long k i)) h =
     let ek = number_of k (omega (arith, h.2.0)) in
     let ei = number_of i (omega (arith, h.2.1)) in
-    other (is_fuse (codes "fuse") (decimal c) (track_word t) && false && is_number (decimal k) && is_number (decimal i)) _ _ (third_of_four (is_fuse (codes "fuse") (decimal c) (track_word t)) (is_number (decimal k)) (is_number (decimal i)))
+    other_line (is_fuse (codes "fuse") (decimal c) (track_word t) && false && is_number (decimal k) && is_number (decimal i)) _ _ (third_of_four (is_fuse (codes "fuse") (decimal c) (track_word t)) (is_number (decimal k)) (is_number (decimal i)))
     ∙ first (is_fuse (codes "fuse") (decimal c) (track_word t) && true && is_number (decimal k) && is_number (decimal i)) _ _
     (with_words _ (is_number (decimal k)) (is_number (decimal i)) (fuse_starts c t h.0 h.1) (is_number_of k (omega (arith, h.2.0))) (is_number_of i (omega (arith, h.2.1))))
     ∙ crossed_is c (number (decimal c)) t _ _ _ (line.Long k i) (number_of c (omega (arith, h.0))) h.0 h.1 (two_numbers 3 k i (number (decimal k)) (number (decimal i)) [] ek ei)
     (two_found k i (number (decimal k)) (number (decimal i)) (λ x y. line.Long x y) ek ei h.2.0 h.2.1)
 site_form (Cross c t (line.Pad pad)) h =
     let ep = number_of pad h.2 in
-    other (is_fuse (codes "fuse") (decimal c) (track_word t) && false && is_number (decimal pad)) _ _ (third_of_three (is_fuse (codes "fuse") (decimal c) (track_word t)) (is_number (decimal pad)))
+    other_line (is_fuse (codes "fuse") (decimal c) (track_word t) && false && is_number (decimal pad)) _ _ (third_of_three (is_fuse (codes "fuse") (decimal c) (track_word t)) (is_number (decimal pad)))
     ∙ first (is_fuse (codes "fuse") (decimal c) (track_word t) && true && is_number (decimal pad)) _ _
     (with_word _ (is_number (decimal pad)) (fuse_starts c t h.0 h.1) (is_number_of pad h.2))
     ∙ crossed_is c (number (decimal c)) t _ _ _ (line.Pad pad) (number_of c (omega (arith, h.0))) h.0 h.1 (ap (λ (z : ℕ). 4 ∷ z ∷ []) ep)
@@ -208,7 +216,7 @@ site_form (Cross c t (line.Pad pad)) h =
 -- a port, a start and a name are read again
 pub in_form : (pad : ℕ) (name : List ℕ) → pad ≤ 65535 → IsTrue (is_name name) → form_of (codes "in" ∷ decimal pad ∷ name ∷ []) ≡ Some (form.In pad name)
 in_form pad name low fine =
-    first (is_number (decimal pad) && is_name name) _ _ (and_of (is_number (decimal pad)) (is_name name) (is_number_of pad low) fine) ∙ ap (λ (n : ℕ). Some (form.In n name)) (number_of pad low)
+    first_line (is_number (decimal pad) && is_name name) _ _ (and_of (is_number (decimal pad)) (is_name name) (is_number_of pad low) fine) ∙ ap (λ (n : ℕ). Some (form.In n name)) (number_of pad low)
 
 pub out_form : (pad : ℕ) (name : List ℕ) → pad ≤ 65535 → IsTrue (is_name name) → form_of (codes "out" ∷ decimal pad ∷ name ∷ []) ≡ Some (form.Out pad name)
 out_form pad name low fine =
@@ -223,14 +231,14 @@ init_of n h = and_of (is_number (decimal n)) (nat_le (number (decimal n)) 3) (is
 pub start_form : (row column init : ℕ) (name : List ℕ) → row ≤ 65535 → column ≤ 65535 → init ≤ 3 → IsTrue (is_name name)
     → form_of (codes "start" ∷ decimal row ∷ decimal column ∷ decimal init ∷ name ∷ []) ≡ Some (form.Start row column init name)
 start_form row column init name r c i fine =
-    first (is_number (decimal row) && is_number (decimal column) && is_init (decimal init) && is_name name) _ _
+    first_line (is_number (decimal row) && is_number (decimal column) && is_init (decimal init) && is_name name) _ _
     (and_of _ (is_name name) (and_of _ (is_init (decimal init)) (and_of (is_number (decimal row)) (is_number (decimal column)) (is_number_of row r) (is_number_of column c)) (init_of init i)) fine)
     ∙ ap (λ (n : ℕ). Some (form.Start n (number (decimal column)) (number (decimal init)) name)) (number_of row r)
     ∙ ap (λ (n : ℕ). Some (form.Start row n (number (decimal init)) name)) (number_of column c)
     ∙ ap (λ (n : ℕ). Some (form.Start row column n name)) (number_of init (omega arith))
 
 pub device_form : (name : List ℕ) → IsTrue (is_name name) → form_of (codes "device" ∷ name ∷ []) ≡ Some (form.Device name)
-device_form name fine = first (is_name name) _ _ fine
+device_form name fine = first_line (is_name name) _ _ fine
 
 pub clock_form : (name : List ℕ) → IsTrue (is_name name) → form_of (codes "clock" ∷ name ∷ []) ≡ Some (form.Clock name)
 clock_form name fine = first (is_name name) _ _ fine

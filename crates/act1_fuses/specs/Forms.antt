@@ -94,24 +94,47 @@ long_fuse c t column index = form.Fuse (number c ∷ track_order t ∷ line_numb
 abbrev pub pad_fuse : List ℕ → List ℕ → List ℕ → FuseLine
 pad_fuse c t pad = form.Fuse (number c ∷ track_order t ∷ line_numbers (line.Pad (number pad))) (crossing (number c) (track_of t) (pad_at (number pad)))
 
--- a line of one word
-abbrev pub form_of_one : List ℕ → Option FuseLine
-form_of_one word = if bytes_eq word (codes "end") then Some form.End else None
+-- the first of two lines that there is
+abbrev pub or_line : Option FuseLine → Option FuseLine → Option FuseLine
+or_line (Some l) other = Some l
+or_line None other = other
 
--- a line of a word and a name
+-- `end`
+abbrev pub end_of : List ℕ → Option FuseLine
+end_of word = if bytes_eq word (codes "end") then Some form.End else None
+
+-- `device NAME`
+abbrev pub device_of : List ℕ → List ℕ → Option FuseLine
+device_of word name = if bytes_eq word (codes "device") && is_name name then Some (form.Device name) else None
+
+-- `clock NAME`
+abbrev pub clock_of : List ℕ → List ℕ → Option FuseLine
+clock_of word name = if bytes_eq word (codes "clock") && is_name name then Some (form.Clock name) else None
+
+-- a line of two words
 abbrev pub form_of_two : List ℕ → List ℕ → Option FuseLine
-form_of_two word name =
-    if bytes_eq word (codes "device") && is_name name then Some (form.Device name)
-    else if bytes_eq word (codes "clock") && is_name name then Some (form.Clock name)
-    else None
+form_of_two word name = or_line (device_of word name) (clock_of word name)
 
--- the first line, an input or an output
+-- `act1 fuses 1`
+abbrev pub header_of : List ℕ → List ℕ → List ℕ → Option FuseLine
+header_of word format version =
+    if bytes_eq word (codes "act1") && bytes_eq format (codes "fuses") && bytes_eq version (codes "1") then Some form.Header else None
+
+-- `in PAD NAME`
+abbrev pub input_of : List ℕ → List ℕ → List ℕ → Option FuseLine
+input_of word pad name = if bytes_eq word (codes "in") && is_number pad && is_name name then Some (form.In (number pad) name) else None
+
+-- `out PAD NAME`
+abbrev pub output_of : List ℕ → List ℕ → List ℕ → Option FuseLine
+output_of word pad name = if bytes_eq word (codes "out") && is_number pad && is_name name then Some (form.Out (number pad) name) else None
+
+-- an input or an output
+abbrev pub port_of : List ℕ → List ℕ → List ℕ → Option FuseLine
+port_of word pad name = or_line (input_of word pad name) (output_of word pad name)
+
+-- a line of three words
 abbrev pub form_of_three : List ℕ → List ℕ → List ℕ → Option FuseLine
-form_of_three word a b =
-    if bytes_eq word (codes "act1") && bytes_eq a (codes "fuses") && bytes_eq b (codes "1") then Some form.Header
-    else if bytes_eq word (codes "in") && is_number a && is_name b then Some (form.In (number a) b)
-    else if bytes_eq word (codes "out") && is_number a && is_name b then Some (form.Out (number a) b)
-    else None
+form_of_three first second third = or_line (header_of first second third) (port_of first second third)
 
 -- the words with which each antifuse begins: `fuse`, a channel and a track
 abbrev pub is_fuse : List ℕ → List ℕ → List ℕ → Bool
@@ -121,33 +144,54 @@ is_fuse word channel track = bytes_eq word (codes "fuse") && is_number channel &
 abbrev pub is_init : List ℕ → Bool
 is_init word = is_number word && nat_le (number word) 3
 
--- a start, or an antifuse along a track or at a pad
+-- `start ROW COLUMN INIT NAME`
+abbrev pub start_of : List ℕ → List ℕ → List ℕ → List ℕ → List ℕ → Option FuseLine
+start_of word row column init name =
+    if bytes_eq word (codes "start") && is_number row && is_number column && is_init init && is_name name then Some (form.Start (number row) (number column) (number init) name)
+    else None
+
+-- `fuse CHANNEL TRACK along INDEX`
+abbrev pub along_of : List ℕ → List ℕ → List ℕ → List ℕ → List ℕ → Option FuseLine
+along_of word channel track kind index = if is_fuse word channel track && bytes_eq kind (codes "along") && is_number index then Some (along_fuse channel track index) else None
+
+-- `fuse CHANNEL TRACK pad PAD`
+abbrev pub pad_of : List ℕ → List ℕ → List ℕ → List ℕ → List ℕ → Option FuseLine
+pad_of word channel track kind pad = if is_fuse word channel track && bytes_eq kind (codes "pad") && is_number pad then Some (pad_fuse channel track pad) else None
+
+-- an antifuse of one number behind its kind
+abbrev pub short_fuse_of : List ℕ → List ℕ → List ℕ → List ℕ → List ℕ → Option FuseLine
+short_fuse_of word channel track kind place = or_line (along_of word channel track kind place) (pad_of word channel track kind place)
+
+-- a line of five words
 abbrev pub form_of_five : List ℕ → List ℕ → List ℕ → List ℕ → List ℕ → Option FuseLine
-form_of_five word a b c d =
-    if bytes_eq word (codes "start") && is_number a && is_number b && is_init c && is_name d then Some (form.Start (number a) (number b) (number c) d)
-    else if is_fuse word a b && bytes_eq c (codes "along") && is_number d then Some (along_fuse a b d)
-    else if is_fuse word a b && bytes_eq c (codes "pad") && is_number d then Some (pad_fuse a b d)
-    else None
+form_of_five first second third fourth fifth = or_line (start_of first second third fourth fifth) (short_fuse_of first second third fourth fifth)
 
--- an antifuse at an output or a long wire
+-- `fuse CHANNEL TRACK out ROW COLUMN`
+abbrev pub out_of : List ℕ → List ℕ → List ℕ → List ℕ → List ℕ → List ℕ → Option FuseLine
+out_of word channel track kind row column =
+    if is_fuse word channel track && bytes_eq kind (codes "out") && is_number row && is_number column then Some (out_fuse channel track row column) else None
+
+-- `fuse CHANNEL TRACK long COLUMN INDEX`
+abbrev pub long_of : List ℕ → List ℕ → List ℕ → List ℕ → List ℕ → List ℕ → Option FuseLine
+long_of word channel track kind column index =
+    if is_fuse word channel track && bytes_eq kind (codes "long") && is_number column && is_number index then Some (long_fuse channel track column index) else None
+
+-- a line of six words
 abbrev pub form_of_six : List ℕ → List ℕ → List ℕ → List ℕ → List ℕ → List ℕ → Option FuseLine
-form_of_six word a b c d e =
-    if is_fuse word a b && bytes_eq c (codes "out") && is_number d && is_number e then Some (out_fuse a b d e)
-    else if is_fuse word a b && bytes_eq c (codes "long") && is_number d && is_number e then Some (long_fuse a b d e)
-    else None
+form_of_six word channel track kind first second = or_line (out_of word channel track kind first second) (long_of word channel track kind first second)
 
--- an antifuse at a pin
-abbrev pub form_of_seven : List ℕ → List ℕ → List ℕ → List ℕ → List ℕ → List ℕ → Option ℕ → Option FuseLine
-form_of_seven word a b c d e (Some pin) =
-    if is_fuse word a b && bytes_eq c (codes "pin") && is_number d && is_number e then Some (pin_fuse a b d e pin) else None
-form_of_seven word a b c d e None = None
+-- `fuse CHANNEL TRACK pin ROW COLUMN PIN`, where the last word is the name of this pin, or of none
+abbrev pub pin_of : List ℕ → List ℕ → List ℕ → List ℕ → List ℕ → List ℕ → Option ℕ → Option FuseLine
+pin_of word channel track kind row column (Some pin) =
+    if is_fuse word channel track && bytes_eq kind (codes "pin") && is_number row && is_number column then Some (pin_fuse channel track row column pin) else None
+pin_of word channel track kind row column None = None
 
 -- the line of these words, or none where they are of no form
 abbrev pub form_of : List (List ℕ) → Option FuseLine
-form_of (a ∷ []) = form_of_one a
+form_of (a ∷ []) = end_of a
 form_of (a ∷ b ∷ []) = form_of_two a b
 form_of (a ∷ b ∷ c ∷ []) = form_of_three a b c
 form_of (a ∷ b ∷ c ∷ d ∷ e ∷ []) = form_of_five a b c d e
 form_of (a ∷ b ∷ c ∷ d ∷ e ∷ f ∷ []) = form_of_six a b c d e f
-form_of (a ∷ b ∷ c ∷ d ∷ e ∷ f ∷ g ∷ []) = form_of_seven a b c d e f (pin_number g)
+form_of (a ∷ b ∷ c ∷ d ∷ e ∷ f ∷ g ∷ []) = pin_of a b c d e f (pin_number g)
 form_of _ = None

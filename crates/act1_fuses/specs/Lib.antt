@@ -4,6 +4,7 @@ pub mod Forms
 pub mod Given
 pub mod Laws
 pub mod Reading
+pub mod ReadingSteps
 pub mod Reads
 pub mod Rules
 pub mod SiteTest

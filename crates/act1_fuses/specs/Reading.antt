@@ -1,12 +1,10 @@
 -- What the lines of an antifuse file do, one after the other, and what may be wrong with each. The rules are this project's own.
-use Rattle.std.specs.Prelude.{ℕ, ◌≡◌, ⊤, Bool, false, not, ◌&&◌, ◌||◌, ◌==◌, nat_le, nat_lt, ◌+◌, if◌then◌else◌, List, [], ◌∷◌, ◌++◌, length, Option, Some, None, Result, Ok, Err}
+use Rattle.std.specs.Prelude.{ℕ, Bool, false, not, ◌&&◌, ◌||◌, ◌==◌, nat_le, nat_lt, ◌+◌, if◌then◌else◌, List, [], ◌∷◌, ◌++◌, length, Option, Some, None, Result, Ok, Err}
 use Rattle.std.specs.List.{list_any}
 use Rattle.std.specs.Str.{bytes_eq}
 use Rattle.act1_base.specs.Rising.{is_before}
 use Rattle.act1_base.specs.Texts.{LineRules, reading}
 use Rattle.act1_base.specs.Words.{words_of}
-use Rattle.act1_base.specs.declared.texts.Stop.{Stop}
-use Rattle.act1_base.specs.declared.texts.Stop.TheVariants.{Fault, Memory}
 use Rattle.act1_base.specs.declared.texts.TextFault.{TextFault}
 use Rattle.act1_device.specs.declared.device.Device.{Device}
 use Rattle.act1_fuses.specs.declared.fault.FuseKind.{FuseKind}
@@ -60,12 +58,12 @@ rules_of dev s (form.Clock name) = []
 rules_of dev s (form.In pad name) = (is_free_pad dev s.file pad, kind.Pad) ∷ (is_own_name (given_of s.file) s.file.clock (form.In pad name), kind.Name) ∷ []
 rules_of dev s (form.Out pad name) = (is_free_pad dev s.file pad, kind.Pad) ∷ (is_own_name (given_of s.file) s.file.clock (form.Out pad name), kind.Name) ∷ []
 rules_of dev s (form.Start row column init name) =
-    (comes_after s 6 (row ∷ column ∷ []), kind.Order)
+    (comes_after s (place_of (form.Start row column init name)) (row ∷ column ∷ []), kind.Order)
     ∷ (nat_lt row dev.rows && nat_lt column dev.columns, kind.Site)
     ∷ (is_own_name (given_of s.file) s.file.clock (form.Start row column init name), kind.Name)
     ∷ []
-rules_of dev s (form.Fuse numbers None) = (comes_after s 7 numbers, kind.Order) ∷ (false, kind.Site) ∷ []
-rules_of dev s (form.Fuse numbers (Some site)) = (comes_after s 7 numbers, kind.Order) ∷ (is_site dev site, kind.Site) ∷ []
+rules_of dev s (form.Fuse numbers None) = (comes_after s (place_of (form.Fuse numbers None)) numbers, kind.Order) ∷ (false, kind.Site) ∷ []
+rules_of dev s (form.Fuse numbers (Some site)) = (comes_after s (place_of (form.Fuse numbers (Some site))) numbers, kind.Order) ∷ (is_site dev site, kind.Site) ∷ []
 rules_of dev s form.End = []
 
 -- what is wrong with a line: the least kind
@@ -103,12 +101,6 @@ unless (Some k) s = Err k
 abbrev pub step : Device → FuseState → FuseLine → Result FuseState FuseKind
 step dev s line = unless (fault_of dev s line) (state_with s line)
 
--- what a call did to a state, where want of memory alone is free
-abbrev pub Takes : Result FuseState FuseKind → FuseState → Result ⊤ (Stop FuseKind) → Type 0
-Takes wanted new (Ok done) = wanted ≡ Ok new
-Takes wanted new (Err (Fault k)) = wanted ≡ Err k
-Takes wanted new (Err Memory) = Unit {0}
-
 -- what the words of a line do
 abbrev pub step_of_words : Device → FuseState → Option FuseLine → Result FuseState FuseKind
 step_of_words dev s None = Err kind.Line
@@ -120,7 +112,7 @@ first_state = record { place = 0; last = []; file = record { device = []; clock 
 
 -- the last line was `end`
 abbrev pub has_ended : FuseState → Bool
-has_ended s = s.place == 8
+has_ended s = s.place == place_of form.End
 
 -- the rules of antifuse files of a device: after `end` no line may stand, and no text ends before it
 abbrev pub fuse_rules : Device → LineRules FuseState FuseKind

@@ -2,6 +2,24 @@ use crate::fuses::FuseFile;
 use act1_base::{Items, Name};
 use act1_device::Site;
 
+/// The places of the kinds of lines among one another, in the order in which they stand in a file; 0 is before
+/// the first line.
+pub const HEADER: u8 = 1;
+
+pub const DEVICE: u8 = 2;
+
+pub const CLOCK: u8 = 3;
+
+pub const IN: u8 = 4;
+
+pub const OUT: u8 = 5;
+
+pub const START: u8 = 6;
+
+pub const FUSE: u8 = 7;
+
+pub const END: u8 = 8;
+
 /// A line of an antifuse file, as it is written. Its numbers may be of any length: one above 65,535
 /// stands here as 65,536, since no device has anything of such a number.
 #[derive(Drop)]

@@ -292,9 +292,9 @@ fn pad_fuse(alloc: Global, channel: &[u8], track: &[u8], pad: &[u8]) -> Result<F
     })
 }
 
-// A line of one word.
-fn form_of_one(word: &[u8]) -> Option<FuseLine>
-    ensures { result ≡ forms.form_of_one word.now }
+// `end`, or none where the word is another.
+fn end_of(word: &[u8]) -> Option<FuseLine>
+    ensures { result ≡ forms.end_of word.now }
 {
     if is(word, b"end") {
         Some(FuseLine::End)
@@ -303,14 +303,21 @@ fn form_of_one(word: &[u8]) -> Option<FuseLine>
     }
 }
 
-// A line of a word and a name.
-fn form_of_two(alloc: Global, word: &[u8], name: &[u8]) -> Result<Option<FuseLine>, Memory>
-    ensures { IfOk result (λ line. line ≡ forms.form_of_two word.now name.now) }
+// `device NAME`, or none where the words are others.
+fn device_of(alloc: Global, word: &[u8], name: &[u8]) -> Result<Option<FuseLine>, Memory>
+    ensures { IfOk result (λ line. line ≡ forms.device_of word.now name.now) }
 {
     if is(word, b"device") && is_name(name) {
         let name = Name::new(alloc, name)?;
         return Ok(Some(FuseLine::Device { name }));
     }
+    Ok(None)
+}
+
+// `clock NAME`, or none where the words are others.
+fn clock_of(alloc: Global, word: &[u8], name: &[u8]) -> Result<Option<FuseLine>, Memory>
+    ensures { IfOk result (λ line. line ≡ forms.clock_of word.now name.now) }
+{
     if is(word, b"clock") && is_name(name) {
         let name = Name::new(alloc, name)?;
         return Ok(Some(FuseLine::Clock { name }));
@@ -318,24 +325,79 @@ fn form_of_two(alloc: Global, word: &[u8], name: &[u8]) -> Result<Option<FuseLin
     Ok(None)
 }
 
-// The first line, an input or an output.
-fn form_of_three(alloc: Global, word: &[u8], a: &[u8], b: &[u8]) -> Result<Option<FuseLine>, Memory>
-    ensures { IfOk result (λ line. line ≡ forms.form_of_three word.now a.now b.now) }
+// A line of two words.
+fn form_of_two(alloc: Global, word: &[u8], name: &[u8]) -> Result<Option<FuseLine>, Memory>
+    ensures { IfOk result (λ line. line ≡ forms.form_of_two word.now name.now) }
 {
-    if is(word, b"act1") && is(a, b"fuses") && is(b, b"1") {
-        return Ok(Some(FuseLine::Header));
+    match device_of(alloc, word, name)? {
+        Some(device) => Ok(Some(device)),
+        None => clock_of(alloc, word, name),
     }
-    if is(word, b"in") && is_number(a) && is_name(b) {
-        let pad = number(a);
-        let name = Name::new(alloc, b)?;
+}
+
+// `act1 fuses 1`, or none where the words are others.
+fn header_of(word: &[u8], format: &[u8], version: &[u8]) -> Option<FuseLine>
+    ensures { result ≡ forms.header_of word.now format.now version.now }
+{
+    if is(word, b"act1") && is(format, b"fuses") && is(version, b"1") {
+        Some(FuseLine::Header)
+    } else {
+        None
+    }
+}
+
+// `in PAD NAME`, or none where the words are others.
+fn input_of(alloc: Global, word: &[u8], pad: &[u8], name: &[u8]) -> Result<Option<FuseLine>, Memory>
+    ensures { IfOk result (λ line. line ≡ forms.input_of word.now pad.now name.now) }
+{
+    if is(word, b"in") && is_number(pad) && is_name(name) {
+        let pad = number(pad);
+        let name = Name::new(alloc, name)?;
         return Ok(Some(FuseLine::In { pad, name }));
     }
-    if is(word, b"out") && is_number(a) && is_name(b) {
-        let pad = number(a);
-        let name = Name::new(alloc, b)?;
+    Ok(None)
+}
+
+// `out PAD NAME`, or none where the words are others.
+fn output_of(
+    alloc: Global,
+    word: &[u8],
+    pad: &[u8],
+    name: &[u8],
+) -> Result<Option<FuseLine>, Memory>
+    ensures { IfOk result (λ line. line ≡ forms.output_of word.now pad.now name.now) }
+{
+    if is(word, b"out") && is_number(pad) && is_name(name) {
+        let pad = number(pad);
+        let name = Name::new(alloc, name)?;
         return Ok(Some(FuseLine::Out { pad, name }));
     }
     Ok(None)
+}
+
+// An input or an output.
+fn port_of(alloc: Global, word: &[u8], pad: &[u8], name: &[u8]) -> Result<Option<FuseLine>, Memory>
+    ensures { IfOk result (λ line. line ≡ forms.port_of word.now pad.now name.now) }
+{
+    match input_of(alloc, word, pad, name)? {
+        Some(input) => Ok(Some(input)),
+        None => output_of(alloc, word, pad, name),
+    }
+}
+
+// A line of three words.
+fn form_of_three(
+    alloc: Global,
+    first: &[u8],
+    second: &[u8],
+    third: &[u8],
+) -> Result<Option<FuseLine>, Memory>
+    ensures { IfOk result (λ line. line ≡ forms.form_of_three first.now second.now third.now) }
+{
+    match header_of(first, second, third) {
+        Some(header) => Ok(Some(header)),
+        None => port_of(alloc, first, second, third),
+    }
 }
 
 // Whether these are the words with which each antifuse begins.
@@ -352,73 +414,169 @@ fn is_init(word: &[u8]) -> bool
     is_number(word) && number(word) <= 3
 }
 
-// A start, or an antifuse along a track or at a pad.
-fn form_of_five(
+// `start ROW COLUMN INIT NAME`, or none where the words are others.
+fn start_of(
     alloc: Global,
     word: &[u8],
-    a: &[u8],
-    b: &[u8],
-    c: &[u8],
-    d: &[u8],
+    row: &[u8],
+    column: &[u8],
+    init: &[u8],
+    name: &[u8],
 ) -> Result<Option<FuseLine>, Memory>
-    ensures { IfOk result (λ line. line ≡ forms.form_of_five word.now a.now b.now c.now d.now) }
+    ensures { IfOk result (λ line. line ≡ forms.start_of word.now row.now column.now init.now name.now) }
 {
-    if is(word, b"start") && is_number(a) && is_number(b) && is_init(c) && is_name(d) {
+    if is(word, b"start") && is_number(row) && is_number(column) && is_init(init) && is_name(name) {
         return Ok(Some(FuseLine::Start {
-            row: number(a),
-            column: number(b),
-            init: number(c) as u8,
-            name: Name::new(alloc, d)?,
+            row: number(row),
+            column: number(column),
+            init: number(init) as u8,
+            name: Name::new(alloc, name)?,
         }));
-    }
-    if is_fuse(word, a, b) && is(c, b"along") && is_number(d) {
-        return Ok(Some(along_fuse(alloc, a, b, d)?));
-    }
-    if is_fuse(word, a, b) && is(c, b"pad") && is_number(d) {
-        return Ok(Some(pad_fuse(alloc, a, b, d)?));
     }
     Ok(None)
 }
 
-// An antifuse at an output or a long wire.
+// `fuse CHANNEL TRACK along INDEX`, or none where the words are others.
+fn along_of(
+    alloc: Global,
+    word: &[u8],
+    channel: &[u8],
+    track: &[u8],
+    kind: &[u8],
+    index: &[u8],
+) -> Result<Option<FuseLine>, Memory>
+    ensures { IfOk result (λ line. line ≡ forms.along_of word.now channel.now track.now kind.now index.now) }
+{
+    if is_fuse(word, channel, track) && is(kind, b"along") && is_number(index) {
+        return Ok(Some(along_fuse(alloc, channel, track, index)?));
+    }
+    Ok(None)
+}
+
+// `fuse CHANNEL TRACK pad PAD`, or none where the words are others.
+fn pad_of(
+    alloc: Global,
+    word: &[u8],
+    channel: &[u8],
+    track: &[u8],
+    kind: &[u8],
+    pad: &[u8],
+) -> Result<Option<FuseLine>, Memory>
+    ensures { IfOk result (λ line. line ≡ forms.pad_of word.now channel.now track.now kind.now pad.now) }
+{
+    if is_fuse(word, channel, track) && is(kind, b"pad") && is_number(pad) {
+        return Ok(Some(pad_fuse(alloc, channel, track, pad)?));
+    }
+    Ok(None)
+}
+
+// An antifuse of one number behind its kind.
+fn short_fuse_of(
+    alloc: Global,
+    word: &[u8],
+    channel: &[u8],
+    track: &[u8],
+    kind: &[u8],
+    place: &[u8],
+) -> Result<Option<FuseLine>, Memory>
+    ensures { IfOk result (λ line. line ≡ forms.short_fuse_of word.now channel.now track.now kind.now place.now) }
+{
+    match along_of(alloc, word, channel, track, kind, place)? {
+        Some(along) => Ok(Some(along)),
+        None => pad_of(alloc, word, channel, track, kind, place),
+    }
+}
+
+// A line of five words.
+fn form_of_five(
+    alloc: Global,
+    first: &[u8],
+    second: &[u8],
+    third: &[u8],
+    fourth: &[u8],
+    fifth: &[u8],
+) -> Result<Option<FuseLine>, Memory>
+    ensures { IfOk result (λ line. line ≡ forms.form_of_five first.now second.now third.now fourth.now fifth.now) }
+{
+    match start_of(alloc, first, second, third, fourth, fifth)? {
+        Some(start) => Ok(Some(start)),
+        None => short_fuse_of(alloc, first, second, third, fourth, fifth),
+    }
+}
+
+// `fuse CHANNEL TRACK out ROW COLUMN`, or none where the words are others.
+fn out_of(
+    alloc: Global,
+    word: &[u8],
+    channel: &[u8],
+    track: &[u8],
+    kind: &[u8],
+    row: &[u8],
+    column: &[u8],
+) -> Result<Option<FuseLine>, Memory>
+    ensures { IfOk result (λ line. line ≡ forms.out_of word.now channel.now track.now kind.now row.now column.now) }
+{
+    if is_fuse(word, channel, track) && is(kind, b"out") && is_number(row) && is_number(column) {
+        return Ok(Some(out_fuse(alloc, channel, track, row, column)?));
+    }
+    Ok(None)
+}
+
+// `fuse CHANNEL TRACK long COLUMN INDEX`, or none where the words are others.
+fn long_of(
+    alloc: Global,
+    word: &[u8],
+    channel: &[u8],
+    track: &[u8],
+    kind: &[u8],
+    column: &[u8],
+    index: &[u8],
+) -> Result<Option<FuseLine>, Memory>
+    ensures { IfOk result (λ line. line ≡ forms.long_of word.now channel.now track.now kind.now column.now index.now) }
+{
+    if is_fuse(word, channel, track) && is(kind, b"long") && is_number(column) && is_number(index) {
+        return Ok(Some(long_fuse(alloc, channel, track, column, index)?));
+    }
+    Ok(None)
+}
+
+// A line of six words.
 fn form_of_six(
     alloc: Global,
     word: &[u8],
-    a: &[u8],
-    b: &[u8],
-    c: &[u8],
-    d: &[u8],
-    e: &[u8],
+    channel: &[u8],
+    track: &[u8],
+    kind: &[u8],
+    first: &[u8],
+    second: &[u8],
 ) -> Result<Option<FuseLine>, Memory>
-    ensures { IfOk result (λ line. line ≡ forms.form_of_six word.now a.now b.now c.now d.now e.now) }
+    ensures { IfOk result (λ line. line ≡ forms.form_of_six word.now channel.now track.now kind.now first.now second.now) }
 {
-    if is_fuse(word, a, b) && is(c, b"out") && is_number(d) && is_number(e) {
-        return Ok(Some(out_fuse(alloc, a, b, d, e)?));
+    match out_of(alloc, word, channel, track, kind, first, second)? {
+        Some(out) => Ok(Some(out)),
+        None => long_of(alloc, word, channel, track, kind, first, second),
     }
-    if is_fuse(word, a, b) && is(c, b"long") && is_number(d) && is_number(e) {
-        return Ok(Some(long_fuse(alloc, a, b, d, e)?));
-    }
-    Ok(None)
 }
 
-// An antifuse at a pin.
-fn form_of_seven(
+// `fuse CHANNEL TRACK pin ROW COLUMN PIN`, or none where the words are others. The pin is that of the last
+// word, if that is one's name.
+fn pin_of(
     alloc: Global,
     word: &[u8],
-    a: &[u8],
-    b: &[u8],
-    c: &[u8],
-    d: &[u8],
-    e: &[u8],
+    channel: &[u8],
+    track: &[u8],
+    kind: &[u8],
+    row: &[u8],
+    column: &[u8],
     pin: Option<u8>,
 ) -> Result<Option<FuseLine>, Memory>
-    ensures { IfOk result (λ line. line ≡ forms.form_of_seven word.now a.now b.now c.now d.now e.now pin) }
+    ensures { IfOk result (λ line. line ≡ forms.pin_of word.now channel.now track.now kind.now row.now column.now pin) }
 {
     let Some(pin) = pin else {
         return Ok(None);
     };
-    if is_fuse(word, a, b) && is(c, b"pin") && is_number(d) && is_number(e) {
-        return Ok(Some(pin_fuse(alloc, a, b, d, e, pin)?));
+    if is_fuse(word, channel, track) && is(kind, b"pin") && is_number(row) && is_number(column) {
+        return Ok(Some(pin_fuse(alloc, channel, track, row, column, pin)?));
     }
     Ok(None)
 }
@@ -428,12 +586,12 @@ fn form_of(alloc: Global, words: &[&[u8]]) -> Result<Option<FuseLine>, Memory>
     ensures { IfOk result (λ line. line ≡ form_of (map (λ word. word.now) words.now)) }
 {
     match words {
-        [a] => Ok(form_of_one(a)),
+        [a] => Ok(end_of(a)),
         [a, b] => form_of_two(alloc, a, b),
         [a, b, c] => form_of_three(alloc, a, b, c),
         [a, b, c, d, e] => form_of_five(alloc, a, b, c, d, e),
         [a, b, c, d, e, f] => form_of_six(alloc, a, b, c, d, e, f),
-        [a, b, c, d, e, f, g] => form_of_seven(alloc, a, b, c, d, e, f, pin_number(g)),
+        [a, b, c, d, e, f, g] => pin_of(alloc, a, b, c, d, e, f, pin_number(g)),
         _ => Ok(None),
     }
 }

@@ -1,11 +1,12 @@
 ghost use Rattle.std.specs.Prelude.{◌≡◌, IfOk};
 ghost use Rattle.act1_base.specs.Texts.{Gives};
 ghost use Rattle.act1_fuses.specs.Reading as reading;
-ghost use Rattle.act1_fuses.specs.Reading.{Takes, first_state, fuse_rules, has_ended};
+ghost use Rattle.act1_fuses.specs.Reading.{first_state, fuse_rules, has_ended};
+ghost use Rattle.act1_fuses.specs.ReadingSteps.{Takes};
 ghost use Rattle.act1_fuses.specs.Given.{given_of};
 
 use crate::fault::FuseKind;
-use crate::form::{FuseLine, FuseState};
+use crate::form::{END, FuseLine, FuseState};
 use crate::fuses::FuseFile;
 use crate::given::GivenNames;
 use crate::lines::read_line;
@@ -63,7 +64,7 @@ fn take_line(
     ensures takes { Takes ((fuse_rules device.now).after state.old line.now) state.new result }
     ensures given { IfOk result (λ _. given.new ≡ given_of state.new.file) }
 {
-    if state.place == 8 {
+    if state.place == END {
         return Err(Stop::Fault(FuseKind::End));
     }
     match read_line(alloc, line)? {
@@ -98,7 +99,7 @@ impl FuseReader {
     pub fn has_ended(&self) -> bool
         ensures { result ≡ has_ended self.now }
     {
-        self.state.place == 8
+        self.state.place == END
     }
 
     /// What a line more does, which is given without its line feed: the lines with this one, or the least

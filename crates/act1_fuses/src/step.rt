@@ -4,12 +4,12 @@ ghost use Rattle.std.specs.Str.{bytes_eq};
 ghost use Rattle.act1_base.specs.Rising.{is_before};
 ghost use Rattle.act1_fuses.specs.Given.{given_of, is_own_name};
 ghost use Rattle.act1_fuses.specs.Reading as reading;
-ghost use Rattle.act1_fuses.specs.Reading.{Takes};
+ghost use Rattle.act1_fuses.specs.ReadingSteps.{Takes};
 ghost use Rattle.act1_fuses.specs.SiteTest.{is_site};
 ghost use Rattle.act1_fuses.specs.declared.form.FuseLine.TheVariants as form;
 
 use crate::fault::FuseKind;
-use crate::form::{FuseLine, FuseState};
+use crate::form::{CLOCK, DEVICE, END, FUSE, FuseLine, FuseState, HEADER, IN, OUT, START};
 use crate::fuses::{FuseFile, Port, StartAt};
 use act1_base::{Items, Name, Stop};
 use act1_circuit::Spot;
@@ -21,14 +21,14 @@ fn place_of(line: &FuseLine) -> u8
     ensures { result ≡ reading.place_of line.now }
 {
     match line {
-        FuseLine::Header => 1,
-        FuseLine::Device { .. } => 2,
-        FuseLine::Clock { .. } => 3,
-        FuseLine::In { .. } => 4,
-        FuseLine::Out { .. } => 5,
-        FuseLine::Start { .. } => 6,
-        FuseLine::Fuse { .. } => 7,
-        FuseLine::End => 8,
+        FuseLine::Header => HEADER,
+        FuseLine::Device { .. } => DEVICE,
+        FuseLine::Clock { .. } => CLOCK,
+        FuseLine::In { .. } => IN,
+        FuseLine::Out { .. } => OUT,
+        FuseLine::Start { .. } => START,
+        FuseLine::Fuse { .. } => FUSE,
+        FuseLine::End => END,
     }
 }
 
@@ -36,10 +36,10 @@ fn place_of(line: &FuseLine) -> u8
 fn may_follow(before: u8, place: u8) -> bool
     ensures { result ≡ reading.may_follow before place }
 {
-    if place <= 2 {
+    if place <= DEVICE {
         return u32::from(before) + 1 == u32::from(place);
     }
-    before >= 2 && (before < place || (before == place && place >= 4 && place <= 7))
+    before >= DEVICE && (before < place || (before == place && place >= IN && place <= FUSE))
 }
 
 // Whether the numbers come before others, as words do in a dictionary.
@@ -120,14 +120,14 @@ fn add_device(
     state: &mut FuseState,
     name: Name,
 ) -> Result<(), Stop<FuseKind>>
-    requires { IsTrue (reading.may_follow state.old.place 2) }
+    requires { IsTrue (reading.may_follow state.old.place (reading.place_of (form.Device name))) }
     ensures { Takes (reading.step device.now state.old (form.Device name)) state.new result }
 {
     if !has_name(&name, &device.name) {
         return Err(Stop::Fault(FuseKind::Device));
     }
     state.file.device = name;
-    move_to(alloc, state, 2);
+    move_to(alloc, state, DEVICE);
     Ok(())
 }
 
@@ -136,7 +136,7 @@ fn add_clock(alloc: Global, state: &mut FuseState, name: Name)
     ensures { state.new ≡ reading.state_with state.old (form.Clock name) }
 {
     state.file.clock = Some(name);
-    move_to(alloc, state, 3);
+    move_to(alloc, state, CLOCK);
 }
 
 // The line of an input.
@@ -148,7 +148,7 @@ fn add_in(
     name: Name,
     is_own: bool,
 ) -> Result<(), Stop<FuseKind>>
-    requires place { IsTrue (reading.may_follow state.old.place 4) }
+    requires place { IsTrue (reading.may_follow state.old.place (reading.place_of (form.In pad name))) }
     requires own { is_own ≡ is_own_name (given_of state.old.file) state.old.file.clock (form.In pad name) }
     ensures { Takes (reading.step device.now state.old (form.In pad name)) state.new result }
 {
@@ -160,7 +160,7 @@ fn add_in(
     }
     let pad = pad as u16;
     state.file.ins.push(Port { pad, name })?;
-    move_to(alloc, state, 4);
+    move_to(alloc, state, IN);
     Ok(())
 }
 
@@ -173,7 +173,7 @@ fn add_out(
     name: Name,
     is_own: bool,
 ) -> Result<(), Stop<FuseKind>>
-    requires place { IsTrue (reading.may_follow state.old.place 5) }
+    requires place { IsTrue (reading.may_follow state.old.place (reading.place_of (form.Out pad name))) }
     requires own { is_own ≡ is_own_name (given_of state.old.file) state.old.file.clock (form.Out pad name) }
     ensures { Takes (reading.step device.now state.old (form.Out pad name)) state.new result }
 {
@@ -185,7 +185,7 @@ fn add_out(
     }
     let pad = pad as u16;
     state.file.outs.push(Port { pad, name })?;
-    move_to(alloc, state, 5);
+    move_to(alloc, state, OUT);
     Ok(())
 }
 
@@ -199,12 +199,12 @@ fn add_start(
     name: Name,
     is_own: bool,
 ) -> Result<(), Stop<FuseKind>>
-    requires place { IsTrue (reading.may_follow state.old.place 6) }
+    requires place { IsTrue (reading.may_follow state.old.place (reading.place_of (form.Start spot.0 spot.1 init name))) }
     requires own { is_own ≡ is_own_name (given_of state.old.file) state.old.file.clock (form.Start spot.0 spot.1 init name) }
     ensures { Takes (reading.step device.now state.old (form.Start spot.0 spot.1 init name)) state.new result }
 {
     let (row, column) = spot;
-    if !comes_after(state, 6, &[row, column]) {
+    if !comes_after(state, START, &[row, column]) {
         return Err(Stop::Fault(FuseKind::Order));
     }
     if row >= u32::from(device.rows) || column >= u32::from(device.columns) {
@@ -219,7 +219,7 @@ fn add_start(
     let spot = Spot { row, column };
     state.file.starts.push(StartAt { spot, init, name })?;
     state.last = last;
-    state.place = 6;
+    state.place = START;
     Ok(())
 }
 
@@ -230,10 +230,10 @@ fn add_fuse(
     numbers: Items<u32>,
     site: Option<Site>,
 ) -> Result<(), Stop<FuseKind>>
-    requires { IsTrue (reading.may_follow state.old.place 7) }
+    requires { IsTrue (reading.may_follow state.old.place (reading.place_of (form.Fuse numbers site))) }
     ensures { Takes (reading.step device.now state.old (form.Fuse numbers site)) state.new result }
 {
-    if !comes_after(state, 7, numbers.as_slice()) {
+    if !comes_after(state, FUSE, numbers.as_slice()) {
         return Err(Stop::Fault(FuseKind::Order));
     }
     let Some(site) = site else {
@@ -244,7 +244,7 @@ fn add_fuse(
     }
     state.file.sites.push(site)?;
     state.last = numbers;
-    state.place = 7;
+    state.place = FUSE;
     Ok(())
 }
 
@@ -265,7 +265,7 @@ pub fn step(
     }
     match line {
         FuseLine::Header => {
-            move_to(alloc, state, 1);
+            move_to(alloc, state, HEADER);
             Ok(())
         }
         FuseLine::Device { name } => add_device(alloc, device, state, name),
@@ -283,7 +283,7 @@ pub fn step(
         } => add_start(alloc, device, state, (row, column), init, name, is_own),
         FuseLine::Fuse { numbers, site } => add_fuse(device, state, numbers, site),
         FuseLine::End => {
-            move_to(alloc, state, 8);
+            move_to(alloc, state, END);
             Ok(())
         }
     }
