@@ -11,11 +11,26 @@ use act1_base::{Items, Memory};
 use act1_table::{Field, Form, Given, Limit, LineGiven, Part, at_most, number_at, read_line};
 use std::alloc::Global;
 
+// The numbers of the forms in the table.
+pub(crate) const HEADER: usize = 0;
+
+pub(crate) const COLUMNS: usize = 1;
+
+pub(crate) const K: usize = 2;
+
+pub(crate) const BUDGET: usize = 3;
+
+pub(crate) const TRACK: usize = 4;
+
+pub(crate) const CONNECTION: usize = 5;
+
+pub(crate) const END: usize = 6;
+
 const NOTHING: Field = Field::OneOf(&[]);
 
 const SMALL: Field = Field::OneOf(&[&[Part::Number(Limit::Most(64))]]);
 
-const BUDGET: Field = Field::OneOf(&[&[Part::Number(Limit::Most(1_000_000_000_000))]]);
+const LARGE: Field = Field::OneOf(&[&[Part::Number(Limit::Most(1_000_000_000_000))]]);
 
 const JOB_LINES: &[Form] = &[
     Form {
@@ -35,7 +50,7 @@ const JOB_LINES: &[Form] = &[
         rest: NOTHING,
     },
     Form {
-        fields: &[Field::OneOf(&[&[Part::Text(b"budget")]]), BUDGET],
+        fields: &[Field::OneOf(&[&[Part::Text(b"budget")]]), LARGE],
         rest: NOTHING,
     },
     Form {
@@ -95,24 +110,24 @@ fn line_of(alloc: Global, given: &LineGiven) -> Result<Option<JobLine>, Memory>
 {
     let words = given.words.as_slice();
     match given.form {
-        0 => Ok(Some(JobLine::Header)),
-        1 => Ok(Some(JobLine::Columns {
+        HEADER => Ok(Some(JobLine::Header)),
+        COLUMNS => Ok(Some(JobLine::Columns {
             columns: small_at(words, 1),
         })),
-        2 => Ok(Some(JobLine::K {
+        K => Ok(Some(JobLine::K {
             k: small_at(words, 1),
         })),
-        3 => Ok(Some(JobLine::Budget {
+        BUDGET => Ok(Some(JobLine::Budget {
             budget: number_at(words, 1).min(1_000_000_000_000),
         })),
-        4 => track_of(alloc, words),
-        5 => Ok(Some(JobLine::Connection {
+        TRACK => track_of(alloc, words),
+        CONNECTION => Ok(Some(JobLine::Connection {
             connection: Connection {
                 left: small_at(words, 1),
                 right: small_at(words, 2),
             },
         })),
-        6 => Ok(Some(JobLine::End)),
+        END => Ok(Some(JobLine::End)),
         _ => Ok(None),
     }
 }

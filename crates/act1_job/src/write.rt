@@ -7,7 +7,7 @@ ghost use Rattle.act1_job.specs.WriteSteps.{head_words, track_words, connection_
 ghost use Rattle.act1_job.specs.declared.line.JobLine.TheVariants.{Header, Budget};
 
 use crate::job::{Connection, Problem};
-use crate::table::job_table;
+use crate::table::{BUDGET, COLUMNS, CONNECTION, END, HEADER, K, TRACK, job_table};
 use act1_base::{Items, Memory};
 use act1_table::{LineGiven, write_line};
 use std::alloc::Global;
@@ -28,7 +28,7 @@ fn numbers_line(alloc: Global, form: usize, numbers: &[u8]) -> Result<LineGiven,
 fn header_line(alloc: Global) -> Result<LineGiven, Memory>
     ensures { IfOk result (λ line. line ≡ given_of Header) }
 {
-    let mut line = LineGiven::new(alloc, 0);
+    let mut line = LineGiven::new(alloc, HEADER);
     line.add_fixed(alloc)?;
     line.add_fixed(alloc)?;
     line.add_fixed(alloc)?;
@@ -39,7 +39,7 @@ fn header_line(alloc: Global) -> Result<LineGiven, Memory>
 fn budget_line(alloc: Global, budget: u64) -> Result<LineGiven, Memory>
     ensures { IfOk result (λ line. line ≡ given_of (Budget budget)) }
 {
-    let mut line = LineGiven::new(alloc, 3);
+    let mut line = LineGiven::new(alloc, BUDGET);
     line.add_fixed(alloc)?;
     line.add_number(alloc, budget)?;
     Ok(line)
@@ -73,7 +73,7 @@ fn write_tracks(alloc: Global, text: &mut Vec<u8>, tracks: &[Items<u8>]) -> Resu
     ensures { OnOk result (text.new.items ≡ text.old.items ++ text_of_lines (map track_words tracks.now)) }
 {
     for breaks in tracks {
-        write_numbers(alloc, text, 4, breaks.as_slice())?;
+        write_numbers(alloc, text, TRACK, breaks.as_slice())?;
     }
     Ok(())
 }
@@ -82,7 +82,12 @@ fn write_tracks(alloc: Global, text: &mut Vec<u8>, tracks: &[Items<u8>]) -> Resu
 fn write_connection(alloc: Global, text: &mut Vec<u8>, connection: Connection) -> Result<(), Memory>
     ensures { OnOk result (text.new.items ≡ text.old.items ++ text_line (connection_words connection)) }
 {
-    write_numbers(alloc, text, 5, &[connection.left, connection.right])
+    write_numbers(
+        alloc,
+        text,
+        CONNECTION,
+        &[connection.left, connection.right],
+    )
 }
 
 // Adds the lines of the connections.
@@ -111,8 +116,8 @@ fn write_head(
 {
     let header = header_line(alloc)?;
     write_given(text, &header)?;
-    write_numbers(alloc, text, 1, &[problem.columns])?;
-    write_numbers(alloc, text, 2, &[problem.k])?;
+    write_numbers(alloc, text, COLUMNS, &[problem.columns])?;
+    write_numbers(alloc, text, K, &[problem.k])?;
     let line = budget_line(alloc, budget)?;
     write_given(text, &line)
 }
@@ -127,6 +132,6 @@ pub fn job_text(alloc: Global, problem: &Problem, budget: u64) -> Result<Vec<u8>
     write_head(alloc, &mut text, problem, budget)?;
     write_tracks(alloc, &mut text, problem.tracks.as_slice())?;
     write_connections(alloc, &mut text, problem.connections.as_slice())?;
-    write_numbers(alloc, &mut text, 6, &[])?;
+    write_numbers(alloc, &mut text, END, &[])?;
     Ok(text)
 }
