@@ -9,8 +9,8 @@ use act1_sim::simulate;
 use std::alloc::Global;
 use std::rt::Files;
 
-// Adds bytes to a text, each as a character.
-fn add_bytes(text: &mut String, bytes: &[u8]) -> Option<()> {
+/// Adds bytes to a text, each as a character.
+pub fn add_bytes(text: &mut String, bytes: &[u8]) -> Option<()> {
     for byte in bytes {
         text.push(char::from(*byte)).ok()?;
     }

@@ -18,6 +18,7 @@
 //! | `count V` | how many of all tables of V variables, at most four, one module can be |
 //! | `scattered N` | how many of N tables of six variables one module can be: every other one is made of pins, the others have scattered bits |
 //! | `diagrams BLIF N COUNT` | how many of so many diagrams of a cover, each with forks of its own, have at most N forks |
+//! | `job JOB` | the job as it is written, or the line that is refused |
 //! | `written DEVICE FUSES` | the antifuse file as it is written |
 //! | `filled B DEVICE FUSES VECTORS` | the outputs where each module without a start of 0 or 1 begins with B |
 #![tactic(auto)]
@@ -26,6 +27,7 @@ mod arrays;
 mod covers;
 mod diagrams;
 mod input;
+mod jobs;
 mod netlists;
 mod tables;
 
@@ -59,6 +61,7 @@ fn add_given<R: Files>(rt: &R, alloc: Global, words: &[&str], text: &mut String)
         "root" => diagrams::root_row(rt, alloc, words, text),
         "count" => tables::count_row(words, text),
         "scattered" => tables::scattered_row(words, text),
+        "job" => jobs::job_row(rt, alloc, words, text),
         "written" => arrays::written_row(rt, alloc, words, text),
         "filled" => arrays::filled_row(rt, alloc, words, text),
         _ => None,
