@@ -1,6 +1,9 @@
 pub mod Evaluated
 pub mod Existence
+pub mod FewPorts
+pub mod LatchNames
 pub mod NetFacts
 pub mod NetGraph
 pub mod OneValuation
+pub mod Signals
 pub mod LineGrows

@@ -33,8 +33,12 @@ module _ (net : Blif) where
   nodes_are : list_all (is_node (signal_count net)) net.nodes ≡ true
   nodes_are = (both _ (list_all (is_node (signal_count net)) net.nodes) first_two).1
 
-  names_are : are_names (with_clock net.clock (names_of net.inputs net.latches net.nodes)) ≡ true
+  pub names_are : are_names (with_clock net.clock (names_of net.inputs net.latches net.nodes)) ≡ true
   names_are = (both (is_name net.model) _ (both _ (list_all (is_latch (signal_count net)) net.latches) (both _ (list_all (is_node (signal_count net)) net.nodes) first_two).0).0).1
+
+  -- the outputs are signals, and differ
+  pub outputs_are : (list_all (λ s. nat_lt s (signal_count net)) net.outputs ≡ true) × (are_different_numbers net.outputs ≡ true)
+  outputs_are = both (list_all (λ s. nat_lt s (signal_count net)) net.outputs) (are_different_numbers net.outputs) (both _ (list_all (λ s. nat_lt s (signal_count net)) net.outputs && are_different_numbers net.outputs) net.valid).1
 
   pub node_is : (j : ℕ) (node : Node) → slice_get net.nodes j ≡ Some node → is_node (signal_count net) node ≡ true
   node_is j node is = all_at (is_node (signal_count net)) net.nodes j node nodes_are is

@@ -1,7 +1,9 @@
--- The law of valuations.
-use Rattle.std.specs.Prelude.{◌≡◌, Bool, List, length}
+-- The laws of netlists.
+use Rattle.std.specs.Prelude.{ℕ, ◌≡◌, ◌<◌, ◌≤◌, ◌+◌, Bool, List, length, Some, slice_get}
 use Rattle.act1_blif.specs.declared.blif.Blif.{Blif}
-use Rattle.act1_blif.specs.Run.{Fits}
+use Rattle.act1_blif.specs.declared.blif.Latch.{Latch}
+use Rattle.act1_blif.specs.declared.blif.Node.{Node}
+use Rattle.act1_blif.specs.Run.{Fits, node_value, signal}
 
 -- some valuation fits, and no other does
 pub record HasOneValuation (net : Blif) (q x : List Bool) : Type 0 where
@@ -12,3 +14,21 @@ pub record HasOneValuation (net : Blif) (q x : List Bool) : Type 0 where
 -- a netlist has one valuation at each of its states and each of its inputs
 abbrev pub EachHasOneValuation : Type 0
 EachHasOneValuation = (net : Blif) (q x : List Bool) → length q ≡ length net.latches → length x ≡ length net.inputs → HasOneValuation net q x
+
+-- a valuation has the inputs first, then the latch outputs, and then what each node gives
+pub record HasSignals (net : Blif) (q x v : List Bool) : Type 0 where
+  pub inputs : (i : ℕ) → i < length net.inputs → signal v i ≡ signal x i
+  pub latches : (k : ℕ) → k < length net.latches → signal v (length net.inputs + k) ≡ signal q k
+  pub nodes : (j : ℕ) (node : Node) → slice_get net.nodes j ≡ Some node → signal v (length net.inputs + length net.latches + j) ≡ node_value v node
+
+-- so has each that fits
+abbrev pub EachHasSignals : Type 0
+EachHasSignals = (net : Blif) (q x v : List Bool) → Fits net q x v → HasSignals net q x v
+
+-- no two latches of a netlist have one name
+abbrev pub LatchNamesDiffer : Type 0
+LatchNamesDiffer = (net : Blif) (j k : ℕ) (l m : Latch) → slice_get net.latches j ≡ Some l → slice_get net.latches k ≡ Some m → l.name ≡ m.name → j ≡ k
+
+-- a netlist has as many inputs and outputs as 16 bits can tell apart
+abbrev pub PortsAreFew : Type 0
+PortsAreFew = (net : Blif) → (length net.inputs ≤ 65535) × (length net.outputs ≤ 65535)

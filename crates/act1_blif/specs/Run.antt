@@ -27,12 +27,25 @@ pub record Fits (net : Blif) (q x v : List Bool) : Type 0 where
 abbrev pub next_state : Blif → List Bool → List Bool
 next_state net v = map (λ (latch : Latch). signal v latch.input) net.latches
 
--- from the state q and over the inputs xs the netlist shows these outputs
+-- how outputs and next states are read from a valuation
+pub record Reading : Type 0 where
+  pub outputs : List Bool → List Bool
+  pub next : List Bool → List Bool
+
+-- as the netlist itself says
+abbrev pub own_reading : Blif → Reading
+own_reading net = record { outputs = λ v. signals v net.outputs; next = next_state net }
+
+-- from the state q and over the inputs xs the netlist shows these outputs, where outputs and next states are read so
+abbrev pub ShowsBy : Blif → Reading → List Bool → List (List Bool) → List (List Bool) → Type 0
+ShowsBy net reading q [] [] = Unit {0}
+ShowsBy net reading q (x ∷ xs) (shown ∷ rest) = (v : List Bool) × Fits net q x v × (shown ≡ reading.outputs v) × ShowsBy net reading (reading.next v) xs rest
+ShowsBy net reading q [] (shown ∷ rest) = ⊥
+ShowsBy net reading q (x ∷ xs) [] = ⊥
+
+-- what the netlist itself shows
 abbrev pub Shows : Blif → List Bool → List (List Bool) → List (List Bool) → Type 0
-Shows net q [] [] = Unit {0}
-Shows net q (x ∷ xs) (shown ∷ rest) = (v : List Bool) × Fits net q x v × (shown ≡ signals v net.outputs) × Shows net (next_state net v) xs rest
-Shows net q [] (shown ∷ rest) = ⊥
-Shows net q (x ∷ xs) [] = ⊥
+Shows net = ShowsBy net (own_reading net)
 
 -- a declared init of 0 or 1 is the latch's value; 2 and 3 leave it free
 abbrev pub AgreesWithInit : ℕ → Bool → Type 0

@@ -8,6 +8,6 @@ mod text;
 mod valuation;
 
 pub use blif::{Blif, Latch, Node};
-pub use laws::one_valuation;
+pub use laws::{latch_names_differ, one_valuation, ports_are_few, valuations_have_signals};
 pub use text::blif_text;
 pub use valuation::values;

@@ -21,8 +21,7 @@ use Rattle.act1_blifread.specs.Faults.{IsWhole, is_among, is_clock_used}
 use Rattle.act1_blifread.specs.Netlist.{latch_of, latches_of, name_at, node_of, nodes_of, signal_at}
 use Rattle.act1_blifread.proofs.FirstLines.{none_passes}
 use Rattle.act1_blifread.proofs.NodeGraphs.{all_below, below_true, names_parts}
-use Rattle.act1_blifread.proofs.NumberLists.{equal_true, equal_turned, is_among_more}
-use Rattle.act1_blifread.proofs.Orders.{few_below, with_first}
+use Rattle.act1_blifread.proofs.NumberLists.{equal_true, equal_turned, few_below, is_among_more, with_first}
 use Rattle.act1_blifread.proofs.SignalLists.{among_filter, clock_below, given_differ, latch_parts, signals_below, signals_differ}
 use Rattle.act1_blifread.proofs.SignalUse.{AreFine, IsFine, all_fine, free, not_true_false, number_low, numbers_differ, numbers_low}
 use Rattle.act1_blifread.proofs.StatementRules.{kept}

@@ -1,5 +1,5 @@
 -- All lines of a netlist's canonical text: they have no fault, and say its statements.
-use Rattle.std.proofs.Common.{ℕ, ◌≡◌, ◌+◌, ◌≤◌, eqb, cond, Bool, true, false, ◌&&◌, ◌||◌, List, [], ◌∷◌, ◌++◌, length, map, Option, Some, None, codes, refl, sym, ap, subst, ◌∙◌, arith, length-append}
+use Rattle.std.proofs.Common.{ℕ, ◌≡◌, ◌+◌, ◌≤◌, eqb, Bool, true, false, ◌&&◌, ◌||◌, List, [], ◌∷◌, ◌++◌, length, map, Option, Some, None, codes, refl, sym, ap, subst, ◌∙◌, arith, length-append}
 use Rattle.std.specs.Prelude.{nat_lt, nat_le}
 use Rattle.std.specs.Option.{option_or}
 use Rattle.std.specs.List.{list_all, flat_map, AllByRecursion}
@@ -12,11 +12,10 @@ use Rattle.act1_logic.specs.declared.cover.Mark.{Mark}
 use Rattle.act1_logic.specs.declared.cover.Row.{Row}
 use Rattle.act1_bliftext.specs.Lines.{Line, line_of, lines_from, over}
 use Rattle.act1_bliftext.specs.Forms.{form_of}
-use Rattle.act1_bliftext.specs.Faults.{first_fault, fault_of, fault_at, is_bad_word, is_long, is_later, names_above}
+use Rattle.act1_bliftext.specs.Faults.{first_fault, fault_of, fault_at, is_bad_word, is_long}
 use Rattle.act1_bliftext.specs.Statements.{Says, AreSaid, block_with, blocks_above, is_said}
 use Rattle.act1_bliftext.specs.Tables.{AreNumbersOf}
 use Rattle.act1_bliftext.specs.declared.fault.BlifKind.{BlifKind}
-use Rattle.act1_bliftext.specs.declared.fault.BlifKind.TheVariants as kind
 use Rattle.act1_bliftext.specs.declared.form.Form.TheVariants as form
 use Rattle.act1_bliftext.specs.declared.statement.NumberedStatement.{NumberedStatement}
 use Rattle.act1_bliftext.specs.declared.statement.Statement.TheVariants as said

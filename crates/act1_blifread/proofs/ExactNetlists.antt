@@ -13,6 +13,7 @@ use Rattle.act1_bliftext.specs.declared.fault.BlifKind.TheVariants.{Twice, Clock
 use Rattle.act1_bliftext.specs.declared.statement.NumberedStatement.{NumberedStatement}
 use Rattle.act1_bliftext.specs.declared.statement.Statement.{Statement}
 use Rattle.act1_bliftext.specs.declared.statements.Statements.{Statements}
+use Rattle.act1_order.specs.Laws.{LevelsWithoutRing, RingOrNone}
 use Rattle.act1_order.specs.Order.{OnRing}
 use Rattle.act1_blifread.specs.Parts.{all_of, clock_of, data_inputs, node_names, output_names, signals_of}
 use Rattle.act1_blifread.specs.Faults.{HasFault, IsFirstAt, IsFree, IsWhole, Passes, WholeBad, is_clock_used, is_node, is_second_clock, is_twice, is_undriven, node_graph, whole_kinds}
@@ -22,7 +23,6 @@ use Rattle.act1_blifread.proofs.BuiltNetlists.{built_valid}
 use Rattle.act1_blifread.proofs.FirstLines.{twice_is_bad, clocks_are_bad, undriven_is_bad, clock_used_is_bad, loop_is_bad, is_whole}
 use Rattle.act1_blifread.proofs.NodeGraphs.{graph_inside, place_within}
 use Rattle.act1_blifread.proofs.NodeLevels.{built_levels}
-use Rattle.act1_blifread.proofs.Rings.{ring_decided}
 
 all_at : {X : Type 0} (P : X → Type 0) (xs : List X) (k : ℕ) (x : X) → All P xs → slice_get xs k ≡ Some x → P x
 all_at P xs k x all e = subst P (get_or_from_slice_get xs k x x e) (All-get_or P xs k x (slice_get_within xs k x e) all)
@@ -111,8 +111,8 @@ passes_decided test [] k = inr (λ h. h)
 passes_decided test (s ∷ ss) zero = true_decided (test s.statement)
 passes_decided test (s ∷ ss) (suc k) = passes_decided test ss k
 
-loop_decided : (ss : List NumberedStatement) (k : ℕ) → Decided (HasFault ss Loop k)
-loop_decided ss k = by (passes_decided is_node ss k) (ring_decided (node_graph ss) (graph_inside ss) (length (all_of node_names (take k ss))))
+loop_decided : RingOrNone → (ss : List NumberedStatement) (k : ℕ) → Decided (HasFault ss Loop k)
+loop_decided ring_or_none ss k = by (passes_decided is_node ss k) (ring_or_none (node_graph ss) (graph_inside ss) (length (all_of node_names (take k ss))))
   where
     by : Decided (Passes is_node ss k) → Decided (OnRing (node_graph ss) (length (all_of node_names (take k ss)))) → Decided (HasFault ss Loop k)
     by (inl a) (inl b) = inl (a, b)
@@ -153,8 +153,8 @@ found ss kind decided = by (found_below ss kind decided (length ss) (omega arith
     by (inr h) = inr h
 
 -- the netlist of whole statements
-netlist : (s : Statements) → IsWhole s.statements → Blif
-netlist s whole = record {
+netlist : LevelsWithoutRing → (s : Statements) → IsWhole s.statements → Blif
+netlist leveled s whole = record {
   model = unwrap_or s.model (codes "top");
   clock = option_map (name_at s.names) (clock_of s.statements);
   inputs = map (name_at s.names) (data_inputs s.statements);
@@ -162,20 +162,20 @@ netlist s whole = record {
   nodes = nodes_of s.names (signals_of s.statements) s.statements;
   outputs = map (signal_at (signals_of s.statements)) (all_of output_names s.statements);
   valid = built_valid s whole;
-  acyclic = ∣ built_levels s whole ∣₁;
+  acyclic = ∣ built_levels leveled s whole ∣₁;
 }
 
-has_netlist : (s : Statements) → IsWhole s.statements → HasNetlist s
+has_netlist : LevelsWithoutRing → (s : Statements) → IsWhole s.statements → HasNetlist s
 unfolding netlist
-has_netlist s whole = record { net = netlist s whole; is = record { whole = whole; model = refl; clock = refl; inputs = refl; latches = refl; nodes = refl; outputs = refl } }
+has_netlist leveled s whole = record { net = netlist leveled s whole; is = record { whole = whole; model = refl; clock = refl; inputs = refl; latches = refl; nodes = refl; outputs = refl } }
 
-pub one_at_least : NetlistOrFault
-one_at_least s =
+pub one_at_least : RingOrNone → LevelsWithoutRing → NetlistOrFault
+one_at_least ring_or_none leveled s =
     twice (found s.statements Twice (λ k. true_decided (is_twice (take (k + 1) s.statements))))
     (found s.statements Clocks (passes_decided (is_second_clock (clock_of s.statements)) s.statements))
     (found s.statements Undriven (passes_decided (is_undriven s.statements) s.statements))
     (found s.statements ClockUsed (passes_decided (is_clock_used (clock_of s.statements)) s.statements))
-    (found s.statements Loop (loop_decided s.statements))
+    (found s.statements Loop (loop_decided ring_or_none s.statements))
   where
     twice : Found s.statements Twice → Found s.statements Clocks → Found s.statements Undriven → Found s.statements ClockUsed → Found s.statements Loop → HasNetlist s ⊎ HasWholeFault s
     twice (inl h) b c d e = inr (record { line = h.0; kind = Twice; is = twice_is_bad s h.0 h.1 })
@@ -183,4 +183,4 @@ one_at_least s =
     twice (inr a) (inr b) (inl h) d e = inr (record { line = h.0; kind = Undriven; is = undriven_is_bad s h.0 a b h.1 })
     twice (inr a) (inr b) (inr c) (inl h) e = inr (record { line = h.0; kind = ClockUsed; is = clock_used_is_bad s h.0 a b c h.1 })
     twice (inr a) (inr b) (inr c) (inr d) (inl h) = inr (record { line = h.0; kind = Loop; is = loop_is_bad s h.0 a b c d h.1 })
-    twice (inr a) (inr b) (inr c) (inr d) (inr e) = inl (has_netlist s (is_whole s.statements a b c d e))
+    twice (inr a) (inr b) (inr c) (inr d) (inr e) = inl (has_netlist leveled s (is_whole s.statements a b c d e))

@@ -18,8 +18,6 @@ pub mod NetlistParts
 pub mod NodeGraphs
 pub mod NodeLevels
 pub mod NumberLists
-pub mod Orders
-pub mod Rings
 pub mod SignalLists
 pub mod SignalUse
 pub mod StatementLists

@@ -11,6 +11,7 @@ use Rattle.act1_bliftext.specs.declared.statement.NumberedStatement.{NumberedSta
 use Rattle.act1_bliftext.specs.declared.statement.Statement.{Statement}
 use Rattle.act1_bliftext.specs.declared.statement.Statement.TheVariants as said
 use Rattle.act1_bliftext.specs.declared.statements.Statements.{Statements}
+use Rattle.act1_order.specs.Laws.{LevelsWithoutRing}
 use Rattle.act1_blifread.specs.Parts.{all_of, clock_of, data_inputs, input_names, is_clock, output_names, signals_of}
 use Rattle.act1_blifread.specs.Faults.{IsWhole}
 use Rattle.act1_blifread.specs.Netlist.{latch_of, latches_of, name_at, node_of, nodes_of, signal_at}
@@ -112,8 +113,8 @@ module _ (s : Statements) (whole : IsWhole s.statements) (model : List ℕ) (clo
       (built_valid s whole))))))
 
   -- and have no ring
-  pub parts_levels : HasLevels inputs latches nodes
-  parts_levels =
+  pub parts_levels : LevelsWithoutRing → HasLevels inputs latches nodes
+  parts_levels leveled =
       subst (λ (i : List (List ℕ)). HasLevels i latches nodes) (sym are.inputs_are)
       (subst (λ (l : List Latch). HasLevels (map (name_at s.names) (data_inputs s.statements)) l nodes) (sym are.latches_are)
-      (subst (λ (n : List Node). HasLevels (map (name_at s.names) (data_inputs s.statements)) (latches_of s.names (signals_of s.statements) s.statements) n) (sym are.nodes_are) (built_levels s whole)))
+      (subst (λ (n : List Node). HasLevels (map (name_at s.names) (data_inputs s.statements)) (latches_of s.names (signals_of s.statements) s.statements) n) (sym are.nodes_are) (built_levels leveled s whole)))

@@ -1,8 +1,9 @@
 -- In the netlist of whole statements no node depends on itself.
 use Rattle.std.proofs.Common.{ℕ, suc, zero, ◌≡◌, ◌<◌, ◌+◌, ◌==◌, true, List, [], ◌∷◌, ◌++◌, length, map, take, Option, Some, None, refl, sym, ap, subst, ◌∙◌, arith}
 use Rattle.std.specs.Prelude.{option_map, slice_get, slice_index_or, Contains}
-use Rattle.std.specs.List.{cons_option, filter_map, list_all, position}
+use Rattle.std.specs.List.{cons_option, filter_map, list_all, position, range_with_len}
 use Rattle.std.proofs.lemmas.Bool.{and_parts}
+use Rattle.std.proofs.lemmas.List.FromFn.{get_or-map-range_with_len}
 use Rattle.std.proofs.lemmas.Option.{get_or_from_slice_get}
 use Rattle.act1_blif.specs.declared.blif.Node.{Node}
 use Rattle.act1_blif.specs.Rules.{HasLevels}
@@ -11,6 +12,7 @@ use Rattle.act1_bliftext.specs.declared.statement.NumberedStatement.{NumberedSta
 use Rattle.act1_bliftext.specs.declared.statement.Statement.{Statement}
 use Rattle.act1_bliftext.specs.declared.statement.Statement.TheVariants as said
 use Rattle.act1_bliftext.specs.declared.statements.Statements.{Statements}
+use Rattle.act1_order.specs.Laws.{AreLevels, LevelsWithoutRing}
 use Rattle.act1_order.specs.Order.{OnRing, Reads}
 use Rattle.act1_blifread.specs.Parts.{all_of, data_inputs, latch_names, node_names, signals_of}
 use Rattle.act1_blifread.specs.Faults.{IsFree, IsWhole, Passes, is_among, is_node, node_graph, node_reads}
@@ -18,7 +20,6 @@ use Rattle.act1_blifread.specs.Netlist.{latches_of, name_at, node_of, nodes_of, 
 use Rattle.act1_blifread.proofs.BuiltNetlists.{front_counted}
 use Rattle.act1_blifread.proofs.FirstPlaces.{first, first_behind, first_front, first_there, position_first}
 use Rattle.act1_blifread.proofs.NodeGraphs.{get_within, graph_inside, length_graph, reads_within, ring_within}
-use Rattle.act1_blifread.proofs.Rings.{level, level_above}
 use Rattle.act1_blifread.proofs.SignalUse.{AreFine, IsFine, all_fine, free, has_number}
 use Rattle.act1_blifread.proofs.StatementRules.{kept}
 
@@ -116,22 +117,18 @@ node_number front outputs n j e = by (first n front) refl
     by None f = cut (first n outputs) (sym (first_behind n front outputs f) ∙ e)
     by (Some p) f = let g : Some p ≡ Some (length front + j) = sym (first_front n front outputs p f) ∙ e in let same : p ≡ length front + j = cc in let low = within p f in absurd (omega arith)
 
--- the levels of the vertices from v on
-abbrev levels_from : List (List ℕ) → ℕ → ℕ → List ℕ
-levels_from reads v zero = []
-levels_from reads v (suc n) = level reads v ∷ levels_from reads (suc v) n
-
-level_at : (reads : List (List ℕ)) (v n k : ℕ) → k < n → slice_index_or (levels_from reads v n) k 0 ≡ level reads (v + k)
-level_at reads v zero k low = absurd (omega arith)
-level_at reads v (suc n) zero low = let e : v ≡ v + 0 = omega arith in ap (level reads) e
-level_at reads v (suc n) (suc k) low = let e : suc v + k ≡ v + suc k = omega arith in level_at reads (suc v) n k (omega arith) ∙ ap (level reads) e
-
 -- no node of the netlist depends on itself
-pub built_levels : (s : Statements) → IsWhole s.statements → HasLevels (map (name_at s.names) (data_inputs s.statements)) (latches_of s.names (signals_of s.statements) s.statements) (nodes_of s.names (signals_of s.statements) s.statements)
-built_levels s whole = record { levels = levels_from (node_graph s.statements) 0 (length (node_graph s.statements)); above = above }
+pub built_levels : LevelsWithoutRing → (s : Statements) → IsWhole s.statements → HasLevels (map (name_at s.names) (data_inputs s.statements)) (latches_of s.names (signals_of s.statements) s.statements) (nodes_of s.names (signals_of s.statements) s.statements)
+built_levels leveled s whole = record { levels = levels; above = above }
   where
-    higher : (v w : ℕ) → Reads (node_graph s.statements) v w → level (node_graph s.statements) w < level (node_graph s.statements) v
-    higher v w h = level_above (node_graph s.statements) (graph_inside s.statements) (no_rings s.statements (free s.statements whole).ring) v w h
+    graph_levels : (level : ℕ → ℕ) × AreLevels (node_graph s.statements) level
+    graph_levels = leveled (node_graph s.statements) (graph_inside s.statements) (no_rings s.statements (free s.statements whole).ring)
+
+    levels : List ℕ
+    levels = map graph_levels.0 (range_with_len 0 (length (node_graph s.statements)))
+
+    level_at : (k : ℕ) → k < length (node_graph s.statements) → slice_index_or levels k 0 ≡ graph_levels.0 k
+    level_at k low = let e : 0 + k ≡ k = omega arith in get_or-map-range_with_len graph_levels.0 0 (length (node_graph s.statements)) k k 0 low e
 
     reads : (k j : ℕ) (node : Node) → FromInputs (all_of node_names s.statements) (signals_of s.statements) s.statements k node
         → Contains node.inputs (length (data_inputs s.statements ++ all_of latch_names s.statements) + j) → Reads (node_graph s.statements) k j
@@ -144,17 +141,11 @@ built_levels s whole = record { levels = levels_from (node_graph s.statements) 0
 
     above : (k j : ℕ) (node : Node) → slice_get (nodes_of s.names (signals_of s.statements) s.statements) k ≡ Some node
         → Contains node.inputs (length (map (name_at s.names) (data_inputs s.statements)) + length (latches_of s.names (signals_of s.statements) s.statements) + j)
-        → slice_index_or (levels_from (node_graph s.statements) 0 (length (node_graph s.statements))) j 0 < slice_index_or (levels_from (node_graph s.statements) 0 (length (node_graph s.statements))) k 0
+        → slice_index_or levels j 0 < slice_index_or levels k 0
     above k j node at c =
         let from = from_inputs (length s.names) s.names (all_of node_names s.statements) (signals_of s.statements) s.statements (all_fine (length s.names) s.statements whole (kept s).within) k node at in
         let h = reads k j node from (subst (λ (n : ℕ). Contains node.inputs (n + j)) (front_counted s.names s.statements) c) in
-        let less = higher k j h in
-        let low = graph_inside s.statements k j h in
-        let small = reads_within (node_graph s.statements) k j h in
-        let one = level_at (node_graph s.statements) 0 (length (node_graph s.statements)) j low in
-        let two = level_at (node_graph s.statements) 0 (length (node_graph s.statements)) k small in
-        let zero_j : 0 + j ≡ j = omega arith in
-        let zero_k : 0 + k ≡ k = omega arith in
-        let a = one ∙ ap (level (node_graph s.statements)) zero_j in
-        let b = two ∙ ap (level (node_graph s.statements)) zero_k in
-        omega (arith, a, b, less)
+        let less = graph_levels.1 k j h in
+        let one = level_at j (graph_inside s.statements k j h) in
+        let two = level_at k (reads_within (node_graph s.statements) k j h) in
+        omega (arith, one, two, less)

@@ -1,11 +1,12 @@
 -- Lists of numbers that differ, and marks of them.
-use Rattle.std.proofs.Common.{ℕ, suc, zero, ◌≡◌, ◌≢◌, ◌<◌, ◌⊎◌, ◌+◌, ◌&&◌, ◌||◌, ◌==◌, not, Bool, true, false, List, [], ◌∷◌, ◌++◌, length, take, drop, get_or, set, refl, sym, ap, subst, ◌∙◌, inl, inr, arith, append_assoc}
-use Rattle.std.specs.Prelude.{nat_lt}
-use Rattle.std.specs.List.{list_all, list_any}
+use Rattle.std.proofs.Common.{ℕ, suc, zero, ◌≡◌, ◌≢◌, ◌<◌, ◌≤◌, ◌⊎◌, ◌+◌, ◌&&◌, ◌||◌, ◌==◌, not, Bool, true, false, List, [], ◌∷◌, ◌++◌, length, take, drop, get_or, set, refl, sym, ap, subst, ◌∙◌, inl, inr, arith, append_assoc}
+use Rattle.std.specs.Prelude.{Contains, nat_lt}
+use Rattle.std.specs.List.{list_all, list_any, AllByRecursion, IsDistinct}
 use Rattle.std.proofs.lemmas.Bool.{cases_eq, false≢true}
 use Rattle.std.proofs.lemmas.Bool.Decides.{nat_tests}
 use Rattle.std.proofs.lemmas.List.{get_or-set_same, get_or-set_other, length-set}
 use Rattle.std.proofs.lemmas.List.Folds.{list_any-append}
+use Rattle.std.proofs.lemmas.Map.Steps.{length-le_from_distinct_below}
 use Rattle.act1_base.specs.Names.{are_different_numbers}
 use Rattle.act1_blifread.specs.Faults.{is_among}
 use Rattle.act1_blifread.specs.NetlistSteps.{AreMarks}
@@ -115,3 +116,75 @@ pub below_at : (count : ℕ) (ns : List ℕ) (i : ℕ) → i < length ns → lis
 below_at count [] i low h = absurd (omega arith)
 below_at count (n ∷ ns) zero low h = let e = (both_true (nat_lt n count) (list_all (λ m. nat_lt m count) ns) h).0 in grind (arith, nat_tests)
 below_at count (n ∷ ns) (suc i) low h = below_at count ns i (omega arith) (both_true (nat_lt n count) (list_all (λ m. nat_lt m count) ns) h).1
+
+-- a number is among others exactly where they contain it
+pub among_contained : (xs : List ℕ) (n : ℕ) → is_among xs n ≡ true → Contains xs n
+among_contained [] n e = absurd (false≢true e)
+among_contained (x ∷ xs) n e = by (x == n) refl (among_contained xs n) e
+  where
+    by : (b : Bool) → (x == n) ≡ b → (is_among xs n ≡ true → Contains xs n) → (b || is_among xs n) ≡ true → Contains (x ∷ xs) n
+    by true is h e = (0, omega arith, true_equal x n is)
+    by false is h e = let c = h e in let low = c.1 in (suc c.0, omega arith, c.2)
+
+pub contained_among : (xs : List ℕ) (n : ℕ) → Contains xs n → is_among xs n ≡ true
+contained_among [] n (k, low, e) = absurd (omega arith)
+contained_among (x ∷ xs) n (zero, low, e) = ap (λ b. b || is_among xs n) (equal_true x n e)
+contained_among (x ∷ xs) n (suc k, low, e) = by (x == n) (contained_among xs n (k, omega arith, e))
+  where
+    by : (b : Bool) → is_among xs n ≡ true → (b || is_among xs n) ≡ true
+    by true e = refl
+    by false e = e
+
+pub any_turned : (n : ℕ) (xs : List ℕ) → list_any (λ m. n == m) xs ≡ is_among xs n
+any_turned n [] = refl
+any_turned n (x ∷ xs) = ap (λ (b : Bool). b || list_any (λ m. n == m) xs) (equal_turned n x) ∙ ap (λ (b : Bool). (x == n) || b) (any_turned n xs)
+
+pub not_true : (b : Bool) → not b ≡ true → b ≡ false
+not_true true e = absurd (false≢true e)
+not_true false e = refl
+
+pub not_false : (b : Bool) → b ≡ false → not b ≡ true
+not_false true e = absurd (false≢true (sym e))
+not_false false e = refl
+
+-- the first of different numbers is none of the others
+pub first_apart : (n : ℕ) (xs : List ℕ) → are_different_numbers (n ∷ xs) ≡ true → is_among xs n ≡ false
+first_apart n xs e = sym (any_turned n xs) ∙ not_true (list_any (λ m. n == m) xs) (both_true (not (list_any (λ m. n == m) xs)) (are_different_numbers xs) e).0
+
+pub others_apart : (n : ℕ) (xs : List ℕ) → are_different_numbers (n ∷ xs) ≡ true → are_different_numbers xs ≡ true
+others_apart n xs e = (both_true (not (list_any (λ m. n == m) xs)) (are_different_numbers xs) e).1
+
+pub with_first : (n : ℕ) (xs : List ℕ) → is_among xs n ≡ false → are_different_numbers xs ≡ true → are_different_numbers (n ∷ xs) ≡ true
+with_first n xs e f = by (not (list_any (λ m. n == m) xs)) (are_different_numbers xs) (not_false (list_any (λ m. n == m) xs) (any_turned n xs ∙ e)) f
+  where
+    by : (a b : Bool) → a ≡ true → b ≡ true → (a && b) ≡ true
+    by a b e f = cc
+
+none_equal : (n : ℕ) (xs : List ℕ) → list_any (λ m. n == m) xs ≡ false → AllByRecursion (λ y. (n == y) ≡ false) xs
+none_equal n [] e = tt
+none_equal n (x ∷ xs) e = let parts = neither (n == x) (list_any (λ m. n == m) xs) e in (parts.0, none_equal n xs parts.1)
+  where
+    neither : (a b : Bool) → (a || b) ≡ false → (a ≡ false) × (b ≡ false)
+    neither true b e = absurd (false≢true (sym e))
+    neither false b e = (refl, e)
+
+distinct : (xs : List ℕ) → are_different_numbers xs ≡ true → IsDistinct (λ (m n : ℕ). m == n) xs
+unfolding IsDistinct
+distinct [] e = tt
+distinct (x ∷ xs) e =
+    let parts = both_true (not (list_any (λ m. x == m) xs)) (are_different_numbers xs) e in
+    (none_equal x xs (not_true (list_any (λ m. x == m) xs) parts.0), distinct xs parts.1)
+
+below_among : (count : ℕ) (xs : List ℕ) (q : ℕ) → list_all (λ n. nat_lt n count) xs ≡ true → is_among xs q ≡ true → q < count
+below_among count [] q h e = absurd (false≢true e)
+below_among count (x ∷ xs) q h e =
+    let parts = both_true (nat_lt x count) (list_all (λ n. nat_lt n count) xs) h in
+    by (x == q) refl (below_among count xs q parts.1) parts.0 e
+  where
+    by : (b : Bool) → (x == q) ≡ b → (is_among xs q ≡ true → q < count) → nat_lt x count ≡ true → (b || is_among xs q) ≡ true → q < count
+    by true is r low e = let is : x ≡ q = true_equal x q is in let less : x < count = grind (arith, nat_tests) in omega arith
+    by false is r low e = r e
+
+-- different numbers below n are at most n
+pub few_below : (n : ℕ) (xs : List ℕ) → are_different_numbers xs ≡ true → list_all (λ m. nat_lt m n) xs ≡ true → length xs ≤ n
+few_below n xs e h = length-le_from_distinct_below xs n (distinct xs e) (λ q among. below_among n xs q h (sym (any_turned q xs) ∙ among))

@@ -15,8 +15,7 @@ use Rattle.act1_blifread.specs.Faults.{IsFree, is_among, is_twice, is_undriven}
 use Rattle.act1_blifread.specs.NetlistSteps.{are_within, ArePlaces, is_without_place}
 use Rattle.act1_blifread.proofs.FirstPlaces.{first_among, position_first}
 use Rattle.act1_blifread.proofs.NodeGraphs.{all_below, below_true, names_parts, node_below, one_below}
-use Rattle.act1_blifread.proofs.NumberLists.{both_true, equal_true, true_equal}
-use Rattle.act1_blifread.proofs.Orders.{few_below, first_apart, others_apart, with_first}
+use Rattle.act1_blifread.proofs.NumberLists.{both_true, equal_true, few_below, first_apart, others_apart, true_equal, with_first}
 
 -- how often a number stands in a list
 abbrev pub times : ℕ → List ℕ → ℕ

@@ -11,19 +11,19 @@ use Rattle.act1_blif.specs.declared.blif.Blif.{Blif}
 use Rattle.act1_blifread.specs.Faults.{WholeBad}
 use Rattle.act1_blifread.specs.Netlist.{Answers, IsNetlistOf}
 use Rattle.act1_blifread.specs.Text.{BlifBad, BlifText}
-use Rattle.act1_blifread.specs.Laws.{HasNetlist, HasWholeFault}
+use Rattle.act1_blifread.specs.Laws.{HasNetlist, HasWholeFault, NetlistOrFault}
 use Rattle.act1_blifread.specs.Laws.{HasTextFault, HasTextNetlist, TextFaultIsOne, TextNetlistIsOne, TextNetlistOrFault, TextNetlistWithoutFault}
 use Rattle.act1_blifread.proofs.ExactNetlists as whole
 
-pub one_at_least : OneOfTwo → TextNetlistOrFault
-one_at_least one_of_two bytes low = by (one_of_two bytes low)
+pub one_at_least : NetlistOrFault → OneOfTwo → TextNetlistOrFault
+one_at_least netlists one_of_two bytes low = by (one_of_two bytes low)
   where
     then : (s : Statements) → StatementsOf bytes s → HasNetlist s ⊎ HasWholeFault s → HasTextNetlist bytes ⊎ HasTextFault bytes
     then s said (inl h) = inl (record { net = h.net; is = record { statements = s; said = said; netlist = h.is } })
     then s said (inr h) = inr (record { line = h.line; kind = h.kind; is = inr (record { statements = s; said = said; fault = h.is }) })
 
     by : ((s : Statements) × StatementsOf bytes s) ⊎ ((fault : BlifFault) × LineBad bytes fault) → HasTextNetlist bytes ⊎ HasTextFault bytes
-    by (inl h) = then h.0 h.1 (whole.one_at_least h.0)
+    by (inl h) = then h.0 h.1 (netlists h.0)
     by (inr h) = inr (record { line = h.0.line; kind = h.0.kind; is = inl h.1 })
 
 pub never_both : NeverBoth → OneReading → TextNetlistWithoutFault

@@ -9,7 +9,7 @@ use crate::places::{place_at, places_of};
 use crate::signals::add_nodes;
 use act1_base::{Items, Memory};
 use act1_bliftext::{BlifKind, NumberedStatement, Statement};
-use act1_order::{Ordering, sources_first};
+use act1_order::{Ordering, rings_and_levels, sources_first};
 use std::alloc::Global;
 
 // Adds a place, if there is one.
@@ -112,6 +112,7 @@ pub fn loop_line(
     requires few { length (all_of node_names statements.now) ≤ 65535 }
     ensures { IfOk result (IsFirstLine statements.now BlifKind.Loop) }
 {
+    rings_and_levels();
     let graph = node_graph(alloc, count, statements)?;
     match sources_first(alloc, graph.as_slice())? {
         Ordering::Order(_) => Ok(None),

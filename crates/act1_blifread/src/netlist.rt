@@ -12,6 +12,7 @@ use act1_base::{Items, Memory, Name};
 use act1_blif::{Blif, Latch, Node};
 use act1_bliftext::{NumberedStatement, Statement, Statements};
 use act1_logic::Cover;
+use act1_order::rings_and_levels;
 use std::alloc::Global;
 
 // The number of a signal.
@@ -205,6 +206,7 @@ pub fn build_netlist(
     requires signals { AreSignals statements signals.now.clock signals.now.places.items }
     ensures { IfOk result (IsNetlistOf statements) }
 {
+    rings_and_levels();
     let Statements {
         model,
         names: all_names,

@@ -17,8 +17,8 @@ pub fn add_bytes(text: &mut String, bytes: &[u8]) -> Option<()> {
     Some(())
 }
 
-// The device of a file.
-fn device_of<R: Files>(rt: &R, alloc: Global, name: &str) -> Option<Device> {
+/// The device of a file.
+pub fn device_of<R: Files>(rt: &R, alloc: Global, name: &str) -> Option<Device> {
     let bytes = bytes_of(rt, alloc, name)?;
     read_device(alloc, &bytes).ok()
 }
@@ -33,8 +33,8 @@ fn fuses_in(alloc: Global, device: &Device, bytes: &[u8]) -> Option<FuseFile>
     read_fuses(alloc, device, bytes).ok()
 }
 
-// The antifuse file of a file, on the device.
-fn fuses_of<R: Files>(rt: &R, alloc: Global, device: &Device, name: &str) -> Option<FuseFile>
+/// The antifuse file of a file, on the device.
+pub fn fuses_of<R: Files>(rt: &R, alloc: Global, device: &Device, name: &str) -> Option<FuseFile>
     ensures { IfSome result (λ file. KeepsRules device.now file) }
 {
     let bytes = bytes_of(rt, alloc, name)?;

@@ -21,9 +21,12 @@
 //! | `job JOB` | the job as it is written, or the line that is refused |
 //! | `written DEVICE FUSES` | the antifuse file as it is written |
 //! | `filled B DEVICE FUSES VECTORS` | the outputs where each module without a start of 0 or 1 begins with B |
+//! | `form DEVICE FUSES` | the latch pairs of the circuit, master and slave, and its other modules; or the first fault |
+//! | `settled CLOCK DEVICE FUSES INPUTS BITS` | what a wave leaves of the bits of the modules, and whether they rest |
 #![tactic(auto)]
 
 mod arrays;
+mod circuits;
 mod covers;
 mod diagrams;
 mod input;
@@ -64,6 +67,8 @@ fn add_given<R: Files>(rt: &R, alloc: Global, words: &[&str], text: &mut String)
         "job" => jobs::job_row(rt, alloc, words, text),
         "written" => arrays::written_row(rt, alloc, words, text),
         "filled" => arrays::filled_row(rt, alloc, words, text),
+        "form" => circuits::form_row(rt, alloc, words, text),
+        "settled" => circuits::settled_row(rt, alloc, words, text),
         _ => None,
     }
 }

@@ -1,1 +1,16 @@
+pub mod CycleSteps
+pub mod EveryOrder
 pub mod Fires
+pub mod FormFound
+pub mod FormLemmas
+pub mod FormSteps
+pub mod OneFault
+pub mod OutsideGraph
+pub mod OutsideOrders
+pub mod PairDecisions
+pub mod PairFacts
+pub mod PairLevels
+pub mod Ranks
+pub mod ReaderTables
+pub mod Settles
+pub mod SiteWaves

@@ -1,4 +1,9 @@
+pub mod Cycles
 pub mod Firing
+pub mod FormFaults
+pub mod Laws
+pub mod PairForm
+pub mod PairFormSteps
 pub mod Range
 pub mod SourceWords
 pub mod Spots

@@ -1,7 +1,10 @@
-ghost use Rattle.std.specs.Prelude.{◌≡◌, ◌≢◌, ◌<◌, ◌≤◌, ◌^◌, ℕ, length, slice_index_or, false, IfSome, IfNone};
-ghost use Rattle.act1_circuit.specs.Firing.{source_value, fired, fire, fire_all, site_order, site_wave, IsAtRest, IsLeastUnrest};
+ghost use Rattle.std.specs.Prelude.{◌≡◌, ◌<◌, ◌^◌, ℕ, List, length, slice_index_or, false, IfSome, IfNone};
+ghost use Rattle.act1_circuit.specs.Firing.{source_value, fired, fire, fire_all, site_order, site_wave, IsAtRest, IsLeastUnrest, IsWave};
+ghost use Rattle.act1_circuit.specs.PairForm.{IsPairForm};
+ghost use Rattle.act1_circuit.specs.Range.{InRange};
 
 use crate::circuit::{Circuit, Source};
+use crate::laws::every_order;
 use act1_logic::module_value;
 
 // The bit at a place, and 0 past the end.
@@ -90,12 +93,9 @@ fn unrest(circuit: &Circuit, clock: bool, inputs: &[bool], bits: &[bool]) -> Opt
     None
 }
 
-/// Fires the wave of as many rounds as there are modules, each in module order: `modules` becomes
-/// what it leaves. The answer is `Some` exactly where a firing would still change a bit, with the
-/// least module whose firing does. It takes no memory.
-///
-/// A round that changes nothing leaves an array at rest, so it is the last one that is fired.
-pub fn settle(circuit: &Circuit, clock: bool, inputs: &[bool], modules: &mut [bool]) -> Option<u16>
+// Fires the wave in site order, and looks for the least module that doesn't rest. A round that changes
+// nothing leaves a circuit at rest, so it is the last one that is fired.
+fn fire_wave(circuit: &Circuit, clock: bool, inputs: &[bool], modules: &mut [bool]) -> Option<u16>
     requires one_each { length modules.old ≡ length circuit.now.modules }
     requires few { length modules.old < 2 ^ 16 }
     ensures wave { modules.new ≡ fire_all circuit.now clock inputs.now modules.old (site_wave (length modules.old)) }
@@ -108,4 +108,20 @@ pub fn settle(circuit: &Circuit, clock: bool, inputs: &[bool], modules: &mut [bo
         }
     }
     unrest(circuit, clock, inputs, modules)
+}
+
+/// Fires the wave of as many rounds as there are modules, each in module order: `modules` becomes
+/// what it leaves. The answer is `Some` exactly where a firing would still change a bit, with the
+/// least module whose firing does. In a circuit in pair form none does, and every other order of firing
+/// leaves the same bits. It takes no memory.
+pub fn settle(circuit: &Circuit, clock: bool, inputs: &[bool], modules: &mut [bool]) -> Option<u16>
+    requires one_each { length modules.old ≡ length circuit.now.modules }
+    requires few { length modules.old < 2 ^ 16 }
+    ensures wave { modules.new ≡ fire_all circuit.now clock inputs.now modules.old (site_wave (length modules.old)) }
+    ensures none { IfNone result (IsAtRest circuit.now clock inputs.now modules.new) }
+    ensures some { IfSome result (IsLeastUnrest circuit.now clock inputs.now modules.new) }
+    ensures pair_form { InRange circuit.now → IsPairForm circuit.now → (result ≡ None) × ((ms : List ℕ) → IsWave (length circuit.now.modules) ms → fire_all circuit.now clock inputs.now modules.old ms ≡ modules.new) }
+{
+    every_order();
+    fire_wave(circuit, clock, inputs, modules)
 }

@@ -6,10 +6,9 @@ ghost use Rattle.act1_flow.specs.FileSteps.{ports_from, output_names, constant_f
 use crate::constants::output_constants;
 use crate::rails::output_sites;
 use act1_base::{Items, Memory, Name, copy_of_name};
-use act1_blif::Blif;
+use act1_blif::{Blif, ports_are_few};
 use act1_device::Device;
 use act1_fuses::{FuseFile, Port};
-use act1_meaning::ports_are_few;
 use std::alloc::Global;
 
 // A copy of the name of a signal of a netlist of constants.

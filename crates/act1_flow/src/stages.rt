@@ -3,9 +3,9 @@ ghost use Rattle.act1_flow.specs.Flow.{FlowGives};
 
 use crate::answer::{FlowStop, Routed};
 use crate::file::constant_file;
-use act1_blif::Blif;
+use act1_blif::{Blif, ports_are_few};
 use act1_device::Device;
-use act1_meaning::{constants_mean, ports_are_few};
+use act1_meaning::constants_mean;
 use std::alloc::Global;
 
 /// Turns a netlist into an antifuse file for a device. The array of the file drives no wire twice,

@@ -1,3 +1,4 @@
 pub mod Cover
 pub mod Module
+pub mod OnSets
 pub mod Rows

@@ -2,11 +2,13 @@
 #![tactic(auto)]
 
 mod cover;
+mod laws;
 mod module;
 mod table;
 mod value;
 
 pub use cover::{Cover, Mark, Row};
+pub use laws::on_sets_have_values;
 pub use module::module_value;
 pub use table::Table;
 pub use value::cover_value;

@@ -12,13 +12,14 @@ use Rattle.act1_circuit.specs.Firing.{Waves, source_value, run, low_bits, high_b
 use Rattle.act1_circuit.specs.Range.{HasSource, InRange}
 use Rattle.act1_meaning.specs.Meaning.{Means, StartsLatch}
 use Rattle.act1_meaning.specs.Constant.{IsConstantCircuit}
+use Rattle.act1_meaning.specs.Laws.{ConstantsMean}
 use Rattle.act1_blif.specs.declared.blif.Blif.{Blif}
 use Rattle.act1_blif.specs.declared.blif.Node.{Node}
 use Rattle.act1_blif.specs.declared.blif.Latch.{Latch}
+use Rattle.act1_blif.specs.Laws.{PortsAreFew}
 use Rattle.act1_blif.specs.Names.{signal_name}
 use Rattle.act1_blif.specs.Run.{Fits, Shows, signal, signals, node_value, next_state}
 use Rattle.act1_logic.specs.Cover.{value_of}
-use Rattle.act1_meaning.proofs.FewPorts.{ports_are_few}
 
 -- a node without inputs has one value
 one_value : (v w : List Bool) (node : Node) → node.inputs ≡ [] → node_value v node ≡ node_value w node
@@ -38,7 +39,7 @@ shown_same : (x bits : List Bool) (os : List Output) → AllByRecursion (λ (o :
 shown_same x bits [] h = refl
 shown_same x bits (o ∷ os) h = rw (source_same false x bits o.source h.0, shown_same x bits os h.1) refl
 
-module _ (c : Circuit) (b : Blif) (h : IsConstantCircuit c b) where
+module _ (ports : PortsAreFew) (c : Circuit) (b : Blif) (h : IsConstantCircuit c b) where
   abbrev valuation : List Bool
   valuation = map (node_value []) b.nodes
 
@@ -75,7 +76,7 @@ module _ (c : Circuit) (b : Blif) (h : IsConstantCircuit c b) where
 
   in_range : InRange c
   in_range =
-      let few = ports_are_few b in
+      let few = ports b in
       let inputs : length c.inputs ≡ length b.inputs = ap (λ (names : List (List ℕ)). length names) h.ports.inputs in
       let outputs : length c.outputs ≡ length b.outputs = sym (length-map c.outputs (λ (o : Output). o.name)) ∙ ap (λ (names : List (List ℕ)). length names) h.ports.outputs ∙ length-map b.outputs (signal_name b) in
       let modules : length c.modules ≡ 0 = ap (λ (ms : List (List Source)). length ms) h.modules in
@@ -88,10 +89,13 @@ module _ (c : Circuit) (b : Blif) (h : IsConstantCircuit c b) where
         few_modules = omega arith;
       }
 
-  pub means : Means c b
+  means : Means c b
   means = record {
     in_range = in_range;
     ports = h.ports;
     shows = λ q bits xs ws k. shows_all q bits xs ws (nil_from_length q (k.state.one_each ∙ ap length h.latches)) (recursion_from_All _ xs k.vectors) k.waves.count;
     rests = λ q bits xs ws k. rests_all bits xs ws;
   }
+
+pub constants_mean : PortsAreFew → ConstantsMean
+constants_mean ports c b h = means ports c b h

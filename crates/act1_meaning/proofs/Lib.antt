@@ -1,4 +1,6 @@
+pub mod ArrayMeaning
+pub mod Carried
 pub mod ConstantMeaning
 pub mod EveryState
-pub mod FewPorts
 pub mod SiteWave
+pub mod SourceLists

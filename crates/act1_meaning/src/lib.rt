@@ -4,4 +4,6 @@
 
 mod laws;
 
-pub use laws::{constants_mean, every_order_is_enough, ports_are_few};
+pub use laws::{
+    array_net_means, carrying_means, constants_mean, each_state_is_met, every_order_is_enough,
+};

@@ -2,5 +2,6 @@ pub mod ClosingLemmas
 pub mod GraphLemmas
 pub mod ReachLemmas
 pub mod ReadersLemmas
+pub mod RingLemmas
 pub mod SearchLemmas
 pub mod SortedLemmas

@@ -1,4 +1,5 @@
 pub mod ClosingSteps
+pub mod Laws
 pub mod Order
 pub mod ReachSteps
 pub mod ReadersSteps

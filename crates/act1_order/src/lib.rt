@@ -3,6 +3,7 @@
 #![tactic(auto)]
 
 mod graph;
+mod laws;
 mod order;
 mod ordering;
 mod reach;
@@ -10,5 +11,6 @@ mod readers;
 mod search;
 mod sorted;
 
+pub use laws::rings_and_levels;
 pub use order::sources_first;
 pub use ordering::Ordering;

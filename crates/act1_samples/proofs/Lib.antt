@@ -1,4 +1,5 @@
 pub mod AntifuseTexts
+pub mod ArrayNets
 pub mod Basics
 pub mod Channels
 pub mod Circuits
@@ -10,6 +11,7 @@ pub mod Matches
 pub mod Modules
 pub mod NetlistTexts
 pub mod Netlists
+pub mod PairForms
 pub mod Refutations
 pub mod RingArrays
 pub mod Simulations

@@ -1,6 +1,6 @@
 -- Worked examples of tables of lines: some lines of antifuse files.
 use Rattle.std.proofs.Common.{ℕ, ◌≡◌, true, false, List, [], ◌∷◌, refl}
-use Rattle.std.specs.Prelude.{codes, Option, Some, None}
+use Rattle.std.specs.Prelude.{codes, Some, None}
 use Rattle.std.specs.Fmt.{digits}
 use Rattle.act1_table.specs.Clear.{is_clear}
 use Rattle.act1_table.specs.Lines.{line_text, read_line}

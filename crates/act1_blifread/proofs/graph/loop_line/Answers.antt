@@ -2,7 +2,6 @@ use Rattle.std.proofs.Common.{ℕ, ◌≡◌, ◌≤◌, List, length, sym, subs
 use Rattle.act1_order.specs.Order.{AreReads, IsFirstOnRing, IsOrder}
 use Rattle.act1_blifread.specs.Faults.{node_graph}
 use Rattle.act1_blifread.proofs.NodeGraphs.{length_graph, graph_inside, ring_is_first, no_loop}
-use Rattle.act1_blifread.proofs.Orders.{no_ring}
 use Rattle.act1_blifread.proofs.graph.loop_line.Goals as goal
 
 pub sources_first-requires-clause-few : goal.sources_first-requires-clause-few
@@ -20,7 +19,7 @@ pub returns-in-Order : goal.returns-in-Order
 returns-in-Order c =
     let e : c.as_slice.result.now ≡ node_graph c.args.statements.now = c.as_slice.ensures.value ∙ c.in_ok-graph.ensures in
     let is : IsOrder c.as_slice.result.now c.in-Order.field-0 = rw c.in-Order.is at c.in_ok-sources_first.ensures in
-    no_loop c.args.statements.now (no_ring (node_graph c.args.statements.now) c.in-Order.field-0 (subst (λ (reads : List (List ℕ)). IsOrder reads c.in-Order.field-0) e is))
+    no_loop c.args.statements.now (c.rings_and_levels.ensures.orders (node_graph c.args.statements.now) c.in-Order.field-0 (subst (λ (reads : List (List ℕ)). IsOrder reads c.in-Order.field-0) e is))
 
 pub returns : goal.returns
 returns c =

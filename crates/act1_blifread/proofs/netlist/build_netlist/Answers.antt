@@ -34,7 +34,7 @@ parts c =
 pub invariant_of-result : goal.invariant_of-result
 invariant_of-result c = record {
   valid = parts_fit c.args.statements c.requires.whole c.in_ok-model_name.field-0 c.in_ok-clock_name.field-0 c.in_ok-inputs.inputs c.in_ok-latches.latches c.in_ok-nodes.nodes c.in_ok-outputs.outputs (parts c);
-  acyclic = ∣ parts_levels c.args.statements c.requires.whole c.in_ok-model_name.field-0 c.in_ok-clock_name.field-0 c.in_ok-inputs.inputs c.in_ok-latches.latches c.in_ok-nodes.nodes c.in_ok-outputs.outputs (parts c) ∣₁;
+  acyclic = ∣ parts_levels c.args.statements c.requires.whole c.in_ok-model_name.field-0 c.in_ok-clock_name.field-0 c.in_ok-inputs.inputs c.in_ok-latches.latches c.in_ok-nodes.nodes c.in_ok-outputs.outputs (parts c) c.rings_and_levels.ensures.levels ∣₁;
 }
 
 pub returns : goal.returns

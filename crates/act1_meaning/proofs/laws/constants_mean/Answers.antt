@@ -1,5 +1,5 @@
-use Rattle.act1_meaning.proofs.ConstantMeaning.{means}
+use Rattle.act1_meaning.proofs.ConstantMeaning.{constants_mean as they_mean}
 use Rattle.act1_meaning.proofs.laws.constants_mean.Goals as goal
 
 pub returns : goal.returns
-returns c = means
+returns c = they_mean c.ports_are_few.ensures

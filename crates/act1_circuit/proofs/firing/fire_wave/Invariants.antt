@@ -1,6 +1,6 @@
 use Rattle.std.proofs.Common.{◌≡◌, length}
 use Rattle.act1_circuit.specs.Firing.{fire_all, site_rounds}
-use Rattle.act1_circuit.proofs.firing.settle.Given as goal
+use Rattle.act1_circuit.proofs.firing.fire_wave.Given as goal
 
 -- so many rounds have fired
 abbrev pub invariant-loop-round : goal.invariant-loop-round

@@ -1,10 +1,23 @@
--- Rings of a finite graph: whether a vertex is on one, and levels where none is.
+-- Rings of a finite graph: whether a vertex lies on one, levels where none does, and that an order leaves none.
 use Rattle.std.proofs.Common.{ℕ, suc, zero, ◌≡◌, ◌<◌, ◌≤◌, ◌⊎◌, ◌+◌, ◌&&◌, ◌||◌, ◌==◌, Bool, true, false, cond, List, [], ◌∷◌, ◌++◌, length, get_or, refl, sym, ap, subst, ◌∙◌, inl, inr, arith}
-use Rattle.std.specs.Prelude.{Contains}
-use Rattle.std.proofs.lemmas.Bool.{cases_eq, false≢true}
-use Rattle.act1_order.specs.Order.{AreReads, LeadsTo, OnRing, Reads}
-use Rattle.act1_blifread.specs.Faults.{is_among}
-use Rattle.act1_blifread.proofs.NumberLists.{equal_true, true_equal}
+use Rattle.std.specs.Prelude.{Contains, Some, slice_get, slice_index_or}
+use Rattle.std.proofs.lemmas.List.{get_or_past}
+use Rattle.std.proofs.lemmas.Bool.{cases_eq, cases_lt, false≢true}
+use Rattle.act1_base.proofs.ListGets.{place_of}
+use Rattle.act1_order.specs.Laws.{LevelsWithoutRing, OrderWithoutRing, RingOrNone}
+use Rattle.act1_order.specs.Order.{AreReads, IsOrder, LeadsTo, OnRing, Reads, StandsBefore}
+use Rattle.std.specs.List.{list_any}
+use Rattle.std.proofs.lemmas.Bool.Decides.{nat_tests}
+
+equal_true : (m n : ℕ) → m ≡ n → (m == n) ≡ true
+equal_true m n e = grind (arith, nat_tests)
+
+true_equal : (m n : ℕ) → (m == n) ≡ true → m ≡ n
+true_equal m n e = grind (arith, nat_tests)
+
+-- the number is one of these
+abbrev pub is_among : List ℕ → ℕ → Bool
+is_among ns n = list_any (λ m. m == n) ns
 
 -- a number is among others exactly where they contain it
 pub among_contained : (xs : List ℕ) (n : ℕ) → is_among xs n ≡ true → Contains xs n
@@ -116,9 +129,9 @@ module _ (reads : List (List ℕ)) where
     leads_reach v w [] h = reads_reach v w h
     leads_reach v w (u ∷ path) h = reach_over (length reads) v u w (inside v u h.0) (reads_reach v u h.0) (leads_reach u w path h.1)
 
-    -- whether a vertex is on a ring is decided
-    pub ring_decided : (v : ℕ) → OnRing reads v ⊎ (OnRing reads v → ⊥)
-    ring_decided v = by (reach (length reads) v v) refl
+    -- whether a vertex lies on a ring is decided
+    on_ring_or_none : (v : ℕ) → OnRing reads v ⊎ (OnRing reads v → ⊥)
+    on_ring_or_none v = by (reach (length reads) v v) refl
       where
         by : (b : Bool) → reach (length reads) v v ≡ b → OnRing reads v ⊎ (OnRing reads v → ⊥)
         by true e = let p = reach_leads (length reads) v v e in inl (record { path = p.0; leads = p.1 })
@@ -173,3 +186,40 @@ module _ (reads : List (List ℕ)) where
       free : (b : Bool) → reach (length reads) w w ≡ b → b ≡ false
       free true e = let p = reach_leads (length reads) w w e in absurd (none w (record { path = p.0; leads = p.1 }))
       free false e = refl
+
+pub ring_decided : RingOrNone
+ring_decided reads inside v = on_ring_or_none reads inside v
+
+pub levels_without_ring : LevelsWithoutRing
+levels_without_ring reads inside none = (level reads, level_above reads inside none)
+
+-- a vertex that reads something is one of the graph
+reader_within : (reads : List (List ℕ)) (v w : ℕ) → Reads reads v w → v < length reads
+reader_within reads v w h = by (cases_lt v (length reads))
+  where
+    by : (v < length reads) ⊎ (length reads ≤ v) → v < length reads
+    by (inl low) = low
+    by (inr high) = let none = subst (λ (ws : List ℕ). Contains ws w) (get_or_past reads v [] high) h in absurd (omega (arith, none.1))
+
+leader_within : (reads : List (List ℕ)) (v w : ℕ) (path : List ℕ) → LeadsTo reads v path w → v < length reads
+leader_within reads v w [] h = reader_within reads v w h
+leader_within reads v w (u ∷ path) h = reader_within reads v u h.0
+
+module _ (reads : List (List ℕ)) (order : List ℕ) (is : IsOrder reads order) where
+  -- what a vertex of the order leads to stands before it
+  led_to : (path : List ℕ) (p v w : ℕ) → slice_get order p ≡ Some v → LeadsTo reads v path w → StandsBefore order p w
+  led_to [] p v w at h = is.after p v w at h
+  led_to (u ∷ path) p v w at h =
+      let first = is.after p v u at h.0 in
+      let rest = led_to path first.place u w first.there h.1 in
+      let low = first.before in
+      let lower = rest.before in
+      record { place = rest.place; before = omega arith; there = rest.there }
+
+pub order_without_ring : OrderWithoutRing
+order_without_ring reads order is v ring =
+    let at = place_of order v (is.there v (leader_within reads v v ring.path ring.leads)) in
+    let before = led_to reads order is ring.path at.0 v v at.1 ring.leads in
+    let same : before.place ≡ at.0 = is.once before.place at.0 v before.there at.1 in
+    let low = before.before in
+    absurd (omega arith)
