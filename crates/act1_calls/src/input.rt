@@ -3,6 +3,8 @@ ghost use Rattle.std.specs.Prelude.{◌≡◌, ◌≤◌, length, IfSome};
 use act1_base::read_number;
 use act1_blif::Blif;
 use act1_blifread::read_blif;
+use act1_channel::Problem;
+use act1_job::read_job;
 use std::alloc::Global;
 use std::fmt::Write;
 use std::fs;
@@ -15,12 +17,51 @@ const MOST_BYTES: u64 = 1 << 20;
 // No number of a row is greater.
 const MOST: u64 = 1_000_000_000;
 
-/// The bytes of a file, if it can be read.
-pub fn bytes_of<R: Files>(rt: &R, alloc: Global, name: &str) -> Option<Vec<u8>> {
+/// The first bytes of a file, at most so many, if it can be read.
+pub fn bytes_up_to<R: Files>(rt: &R, alloc: Global, name: &str, most: u64) -> Option<Vec<u8>> {
     let file = fs::open(rt, name).ok()?;
     let mut bytes = Vec::new(alloc);
-    file.take(MOST_BYTES).read_to_end(&mut bytes).ok()?;
+    file.take(most).read_to_end(&mut bytes).ok()?;
     Some(bytes)
+}
+
+/// The bytes of a file, if it can be read.
+pub fn bytes_of<R: Files>(rt: &R, alloc: Global, name: &str) -> Option<Vec<u8>> {
+    bytes_up_to(rt, alloc, name, MOST_BYTES)
+}
+
+/// The text that the words are, parted by one blank each. A word `/` ends a line.
+pub fn text_of(alloc: Global, words: &[&str]) -> Option<Vec<u8>> {
+    let mut text = Vec::new(alloc);
+    let mut begins_line = true;
+    for word in words {
+        if *word == "/" {
+            text.push(b'\n').ok()?;
+            begins_line = true;
+        } else {
+            add_word(&mut text, begins_line, word)?;
+            begins_line = false;
+        }
+    }
+    Some(text)
+}
+
+// Adds a word, with a blank in front but at the beginning of a line.
+fn add_word(text: &mut Vec<u8>, begins_line: bool, word: &str) -> Option<()> {
+    if !begins_line {
+        text.push(b' ').ok()?;
+    }
+    text.extend_from_slice(word.as_bytes()).ok()
+}
+
+/// The channel problem of a job's file.
+pub fn problem_of<R: Files>(rt: &R, alloc: Global, name: &str) -> Option<Problem> {
+    let bytes = bytes_of(rt, alloc, name)?;
+    if bytes.len() > 4_000_000_000 {
+        return None;
+    }
+    let job = read_job(alloc, &bytes).ok()?;
+    Some(job.problem)
 }
 
 /// The netlist of a BLIF file.

@@ -19,6 +19,15 @@
 //! | `scattered N` | how many of N tables of six variables one module can be: every other one is made of pins, the others have scattered bits |
 //! | `diagrams BLIF N COUNT` | how many of so many diagrams of a cover, each with forks of its own, have at most N forks |
 //! | `job JOB` | the job as it is written, or the line that is refused |
+//! | `segments JOB C T` | how many segments of track T connection C of the job's problem overlaps |
+//! | `allowed JOB C T` | whether the connection may take the track |
+//! | `clash JOB C D T` | whether two connections overlap a common segment of the track |
+//! | `fits JOB T ..` | whether the tracks are an assignment |
+//! | `log TEXT` | the log as it is written, or the line that is refused; in a text a word `/` ends a line |
+//! | `answer TEXT` | the answer as it is written, or the line that is refused |
+//! | `check JOB TEXT` | whether a log is accepted for the job's problem, or why it isn't |
+//! | `checked JOB LOG` | the same of a log's file of at most 256 MiB |
+//! | `copied LOG` | whether the log of such a file is written as it is read |
 //! | `written DEVICE FUSES` | the antifuse file as it is written |
 //! | `filled B DEVICE FUSES VECTORS` | the outputs where each module without a start of 0 or 1 begins with B |
 //! | `form DEVICE FUSES` | the latch pairs of the circuit, master and slave, and its other modules; or the first fault |
@@ -26,11 +35,13 @@
 #![tactic(auto)]
 
 mod arrays;
+mod channels;
 mod circuits;
 mod covers;
 mod diagrams;
 mod input;
 mod jobs;
+mod logs;
 mod netlists;
 mod tables;
 
@@ -65,6 +76,15 @@ fn add_given<R: Files>(rt: &R, alloc: Global, words: &[&str], text: &mut String)
         "count" => tables::count_row(words, text),
         "scattered" => tables::scattered_row(words, text),
         "job" => jobs::job_row(rt, alloc, words, text),
+        "segments" => channels::segments_row(rt, alloc, words, text),
+        "allowed" => channels::allowed_row(rt, alloc, words, text),
+        "clash" => channels::clash_row(rt, alloc, words, text),
+        "fits" => channels::fits_row(rt, alloc, words, text),
+        "log" => logs::log_row(alloc, words, text),
+        "answer" => logs::answer_row(alloc, words, text),
+        "check" => logs::check_row(rt, alloc, words, text),
+        "checked" => logs::checked_row(rt, alloc, words, text),
+        "copied" => logs::copied_row(rt, alloc, words, text),
         "written" => arrays::written_row(rt, alloc, words, text),
         "filled" => arrays::filled_row(rt, alloc, words, text),
         "form" => circuits::form_row(rt, alloc, words, text),

@@ -6,11 +6,11 @@ use Rattle.act1_base.specs.Words.{text_line, text_of_lines}
 use Rattle.act1_base.proofs.TextGrows.{text_more}
 use Rattle.act1_table.specs.Formats.{own_words}
 use Rattle.act1_table.specs.Forms.{line_words}
-use Rattle.act1_job.specs.Lines.{job_table, numbers_line, job_format, job_lines, job_text}
+use Rattle.act1_channel.specs.declared.problem.Connection.{Connection}
+use Rattle.act1_channel.specs.declared.problem.Problem.{Problem}
+use Rattle.act1_job.specs.Lines.{job_table, numbers_line, job_format, draft_lines, draft_text, job_text}
 use Rattle.act1_job.specs.WriteSteps.{head_words, track_words, connection_words}
-use Rattle.act1_job.specs.declared.job.Connection.{Connection}
-use Rattle.act1_job.specs.declared.job.Job.{Job}
-use Rattle.act1_job.specs.declared.job.Problem.{Problem}
+use Rattle.act1_job.specs.declared.draft.Draft.{Draft}
 use Rattle.act1_job.specs.declared.line.JobLine.TheVariants as line
 
 same_read : {A : Type 0} (xs : List A) (i : ℕ) (d : A) → i < length xs → get_or xs i d ≡ get_or xs i (get_or xs i d)
@@ -35,17 +35,17 @@ connections_words (c ∷ connections) = ap (λ (ws : List (List (List ℕ))). co
 abbrev end_words : List (List ℕ)
 end_words = line_words job_table (numbers_line 6 [])
 
-lines_words : (job : Job) → map (own_words job_format) (job_lines job) ≡ head_words job.problem.columns job.problem.k job.budget ++ ((map track_words job.problem.tracks ++ map connection_words job.problem.connections) ++ end_words ∷ [])
-lines_words job =
+lines_words : (d : Draft) → map (own_words job_format) (draft_lines d) ≡ head_words d.columns d.k d.budget ++ ((map track_words d.tracks ++ map connection_words d.connections) ++ end_words ∷ [])
+lines_words d =
     let own = own_words job_format in
-    let tracks = map (λ (breaks : List ℕ). line.Track breaks) job.problem.tracks in
-    let connections = map (λ (c : Connection). line.Connection c) job.problem.connections in
-    ap (λ (ws : List (List (List ℕ))). head_words job.problem.columns job.problem.k job.budget ++ ws)
+    let tracks = map (λ (breaks : List ℕ). line.Track breaks) d.tracks in
+    let connections = map (λ (c : Connection). line.Connection c) d.connections in
+    ap (λ (ws : List (List (List ℕ))). head_words d.columns d.k d.budget ++ ws)
     (map-append own (tracks ++ connections) (line.End ∷ [])
     ∙ ap (λ (ws : List (List (List ℕ))). ws ++ end_words ∷ []) (
     map-append own tracks connections
-    ∙ ap (λ (ws : List (List (List ℕ))). ws ++ map own connections) (tracks_words job.problem.tracks)
-    ∙ ap (λ (ws : List (List (List ℕ))). map track_words job.problem.tracks ++ ws) (connections_words job.problem.connections)))
+    ∙ ap (λ (ws : List (List (List ℕ))). ws ++ map own connections) (tracks_words d.tracks)
+    ∙ ap (λ (ws : List (List (List ℕ))). map track_words d.tracks ++ ws) (connections_words d.connections)))
 
 texts : (a b c : List (List (List ℕ))) (e : List (List ℕ)) → text_of_lines (a ++ ((b ++ c) ++ e ∷ [])) ≡ ((text_of_lines a ++ text_of_lines b) ++ text_of_lines c) ++ text_line e
 texts a b c e =
@@ -57,10 +57,10 @@ texts a b c e =
     ∙ ap (λ (bytes : List ℕ). bytes ++ text_line e) (sym (append_assoc (text_of_lines a) (text_of_lines b) (text_of_lines c)))
 
 -- the pieces that are written make the text
-pub text_is : (job : Job) → ((text_of_lines (head_words job.problem.columns job.problem.k job.budget) ++ text_of_lines (map track_words job.problem.tracks)) ++ text_of_lines (map connection_words job.problem.connections)) ++ text_line end_words ≡ job_text job
-unfolding job_text
-text_is job =
-    sym (ap text_of_lines (lines_words job) ∙ texts (head_words job.problem.columns job.problem.k job.budget) (map track_words job.problem.tracks) (map connection_words job.problem.connections) end_words)
+pub text_is : (d : Draft) → ((text_of_lines (head_words d.columns d.k d.budget) ++ text_of_lines (map track_words d.tracks)) ++ text_of_lines (map connection_words d.connections)) ++ text_line end_words ≡ draft_text d
+unfolding draft_text
+text_is d =
+    sym (ap text_of_lines (lines_words d) ∙ texts (head_words d.columns d.k d.budget) (map track_words d.tracks) (map connection_words d.connections) end_words)
 
 pub written : (problem : Problem) (budget : ℕ) (start head tracks connections whole : List ℕ) (some : List (List ℕ)) (all : List Connection) → start ≡ []
     → head ≡ start ++ text_of_lines (head_words problem.columns problem.k budget)
@@ -73,4 +73,4 @@ written problem budget start head tracks connections whole some all none h some_
     ∙ ap (λ (bytes : List ℕ). bytes ++ text_of_lines (map connection_words problem.connections)) (
     t ∙ ap (λ (ts : List (List ℕ)). head ++ text_of_lines (map track_words ts)) some_is
     ∙ ap (λ (bytes : List ℕ). bytes ++ text_of_lines (map track_words problem.tracks)) (h ∙ ap (λ (bytes : List ℕ). bytes ++ text_of_lines (head_words problem.columns problem.k budget)) none)))
-    ∙ text_is (record { problem = problem; budget = budget })
+    ∙ text_is (record { columns = problem.columns; k = problem.k; budget = budget; tracks = problem.tracks; connections = problem.connections })

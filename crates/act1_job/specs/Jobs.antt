@@ -1,13 +1,8 @@
--- What a job is: a channel problem within its ranges, and a budget.
-use Rattle.std.specs.Prelude.{ℕ, Bool, true, ◌&&◌, nat_le, nat_lt, List, [], ◌∷◌, length}
-use Rattle.std.specs.List.{list_all}
-use Rattle.act1_job.specs.declared.job.Connection.{Connection}
-use Rattle.act1_job.specs.declared.job.Problem.{Problem}
+-- What a job is: a channel problem, and a budget within its range.
+use Rattle.std.specs.Prelude.{ℕ, Bool, true, ◌&&◌, nat_lt, List, [], ◌∷◌}
+use Rattle.act1_channel.specs.Ranges.{is_within, is_problem}
+use Rattle.act1_job.specs.declared.draft.Draft.{Draft}
 use Rattle.act1_job.specs.declared.job.Job.{Job}
-
--- the number lies between the two
-abbrev pub is_within : ℕ → ℕ → ℕ → Bool
-is_within low high n = nat_le low n && nat_le n high
 
 -- each break is above the one before, the first above this number, and all are below the columns
 abbrev pub breaks_rise : ℕ → ℕ → List ℕ → Bool
@@ -18,16 +13,14 @@ breaks_rise columns before (b ∷ breaks) = nat_lt before b && nat_lt b columns 
 abbrev pub are_breaks : ℕ → List ℕ → Bool
 are_breaks columns breaks = breaks_rise columns 0 breaks
 
--- the connection lies within the columns
-abbrev pub is_interval : ℕ → Connection → Bool
-is_interval columns connection = nat_le connection.left connection.right && nat_lt connection.right columns
+-- the range of a budget
+abbrev pub is_budget : ℕ → Bool
+is_budget budget = is_within 1 1000000000000 budget
 
--- the ranges of a problem
-abbrev pub is_problem : Problem → Bool
-is_problem p =
-    is_within 2 64 p.columns && is_within 1 64 p.k && is_within 1 64 (length p.tracks) && list_all (are_breaks p.columns) p.tracks
-    && nat_le (length p.connections) 8192 && list_all (is_interval p.columns) p.connections
-
--- and of a job
+-- a job, whose problem keeps its own ranges
 abbrev pub is_job : Job → Bool
-is_job job = is_problem job.problem && is_within 1 1000000000000 job.budget
+is_job job = is_budget job.budget
+
+-- a draft that is a job
+abbrev pub is_draft : Draft → Bool
+is_draft d = is_problem d.columns d.k d.tracks d.connections && is_budget d.budget

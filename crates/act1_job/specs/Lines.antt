@@ -1,28 +1,16 @@
 -- The lines of the text of a job, as a table, and the text of a job. The format is this project's own.
 use Rattle.std.specs.Prelude.{ℕ, ◌==◌, if◌then◌else◌, List, [], ◌∷◌, ◌++◌, map, Option, Some, None, codes}
 use Rattle.act1_base.specs.Capped.{at_most}
+use Rattle.act1_channel.specs.declared.problem.Connection.{Connection}
 use Rattle.act1_table.specs.Formats.{LineFormat, text_of}
-use Rattle.act1_table.specs.Table.{Text, Number, Field, OneOf, Form}
+use Rattle.act1_table.specs.Table.{Form, word, up_to, nothing}
 use Rattle.act1_table.specs.Values.{fixed, number, number_at, number_up_to}
 use Rattle.act1_table.specs.declared.forms.Given.{Given}
-use Rattle.act1_table.specs.declared.forms.Limit.TheVariants.{Most}
 use Rattle.act1_table.specs.declared.forms.LineGiven.{LineGiven}
-use Rattle.act1_job.specs.declared.job.Connection.{Connection}
+use Rattle.act1_job.specs.declared.draft.Draft.{Draft}
 use Rattle.act1_job.specs.declared.job.Job.{Job}
 use Rattle.act1_job.specs.declared.line.JobLine.{JobLine}
 use Rattle.act1_job.specs.declared.line.JobLine.TheVariants as line
-
--- this word and no other
-abbrev pub word : List ℕ → Field
-word bytes = OneOf ((Text bytes ∷ []) ∷ [])
-
--- a number of at most this
-abbrev pub up_to : ℕ → Field
-up_to most = OneOf ((Number (Most most) ∷ []) ∷ [])
-
--- no word
-abbrev pub nothing : Field
-nothing = OneOf []
 
 -- `act1 job 1`
 abbrev pub header_form : Form
@@ -97,16 +85,25 @@ line_of given =
 abbrev pub job_format : LineFormat JobLine
 job_format = record { table = job_table; given_of = given_of; line_of = line_of }
 
--- the lines of a job up to its connections
-abbrev pub body_lines : Job → List JobLine
-body_lines job =
-    line.Header ∷ line.Columns job.problem.columns ∷ line.K job.problem.k ∷ line.Budget job.budget
-    ∷ (map (λ (breaks : List ℕ). line.Track breaks) job.problem.tracks ++ map (λ (connection : Connection). line.Connection connection) job.problem.connections)
+-- the lines of a draft up to its connections
+abbrev pub body_lines : Draft → List JobLine
+body_lines d =
+    line.Header ∷ line.Columns d.columns ∷ line.K d.k ∷ line.Budget d.budget
+    ∷ (map (λ (breaks : List ℕ). line.Track breaks) d.tracks ++ map (λ (connection : Connection). line.Connection connection) d.connections)
 
--- all lines of a job
-abbrev pub job_lines : Job → List JobLine
-job_lines job = body_lines job ++ line.End ∷ []
+-- all its lines
+abbrev pub draft_lines : Draft → List JobLine
+draft_lines d = body_lines d ++ line.End ∷ []
+
+-- its one text
+unfoldable pub draft_text : Draft → List ℕ
+draft_text d = text_of job_format (draft_lines d)
+
+-- what the lines of a job say
+abbrev pub draft_of : Job → Draft
+draft_of job =
+    record { columns = job.problem.columns; k = job.problem.k; budget = job.budget; tracks = job.problem.tracks; connections = job.problem.connections }
 
 -- the one text of a job
-unfoldable pub job_text : Job → List ℕ
-job_text job = text_of job_format (job_lines job)
+abbrev pub job_text : Job → List ℕ
+job_text job = draft_text (draft_of job)

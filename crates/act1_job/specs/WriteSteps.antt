@@ -1,8 +1,8 @@
 -- What the writer of jobs adds, piece by piece.
 use Rattle.std.specs.Prelude.{ℕ, List, [], ◌∷◌}
+use Rattle.act1_channel.specs.declared.problem.Connection.{Connection}
 use Rattle.act1_table.specs.Forms.{line_words}
 use Rattle.act1_job.specs.Lines.{job_table, numbers_line, given_of}
-use Rattle.act1_job.specs.declared.job.Connection.{Connection}
 use Rattle.act1_job.specs.declared.line.JobLine.TheVariants as line
 
 -- the words of a track, and of a connection

@@ -1,6 +1,7 @@
 //! The text of a job: a channel problem and the budget of its search, as a helper is given them.
 #![tactic(auto)]
 
+mod draft;
 mod fault;
 mod job;
 mod line;
@@ -11,6 +12,6 @@ mod table;
 mod write;
 
 pub use fault::JobFault;
-pub use job::{Connection, Job, Problem};
+pub use job::Job;
 pub use read::read_job;
 pub use write::job_text;

@@ -1,5 +1,6 @@
-use crate::job::{Connection, Job};
+use crate::draft::Draft;
 use act1_base::Items;
+use act1_channel::Connection;
 
 /// A line of the text of a job.
 #[derive(Drop)]
@@ -57,11 +58,11 @@ pub enum JobState {
     /// `budget`, a track or a connection.
     Body {
         /// The job with the tracks and connections so far.
-        job: Job,
+        draft: Draft,
     },
     /// `end`.
     End {
         /// The job.
-        job: Job,
+        draft: Draft,
     },
 }

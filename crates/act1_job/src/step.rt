@@ -2,65 +2,66 @@ ghost use Rattle.std.specs.Prelude.{◌≡◌, IfOk};
 ghost use Rattle.act1_base.specs.Texts.{Gives};
 ghost use Rattle.act1_job.specs.Steps as steps;
 
-use crate::job::{Connection, Job, Problem};
+use crate::draft::Draft;
 use crate::line::{JobLine, JobState};
 use crate::rules::{is_within, takes_connection, takes_track};
 use act1_base::{Items, Memory, Stop};
+use act1_channel::Connection;
 use std::alloc::Global;
 
 // A job without tracks and connections.
-fn empty_job(alloc: Global, columns: u8, k: u8, budget: u64) -> Job
-    ensures { result ≡ steps.empty_job columns k budget }
+fn empty_draft(alloc: Global, columns: u8, k: u8, budget: u64) -> Draft
+    ensures { result ≡ steps.empty_draft columns k budget }
 {
-    let problem = Problem {
+    Draft {
         columns,
         k,
+        budget,
         tracks: Items::new(alloc),
         connections: Items::new(alloc),
-    };
-    Job { problem, budget }
+    }
 }
 
 // The job with one track more.
-fn with_track(mut job: Job, breaks: Items<u8>) -> Result<Job, Memory>
-    ensures { IfOk result (λ more. more ≡ steps.with_track job breaks) }
+fn with_track(mut draft: Draft, breaks: Items<u8>) -> Result<Draft, Memory>
+    ensures { IfOk result (λ more. more ≡ steps.with_track draft breaks) }
 {
-    job.problem.tracks.push(breaks)?;
-    Ok(job)
+    draft.tracks.push(breaks)?;
+    Ok(draft)
 }
 
 // The job with one connection more.
-fn with_connection(mut job: Job, connection: Connection) -> Result<Job, Memory>
-    ensures { IfOk result (λ more. more ≡ steps.with_connection job connection) }
+fn with_connection(mut draft: Draft, connection: Connection) -> Result<Draft, Memory>
+    ensures { IfOk result (λ more. more ≡ steps.with_connection draft connection) }
 {
-    job.problem.connections.push(connection)?;
-    Ok(job)
+    draft.connections.push(connection)?;
+    Ok(draft)
 }
 
 // What a line does behind `budget`.
-fn body_step(job: Job, line: JobLine) -> Result<JobState, Stop<()>>
-    ensures { Gives result (steps.body_step job line) }
+fn body_step(draft: Draft, line: JobLine) -> Result<JobState, Stop<()>>
+    ensures { Gives result (steps.body_step draft line) }
 {
     match line {
         JobLine::Track { breaks } => {
-            if !takes_track(&job.problem, breaks.as_slice()) {
+            if !takes_track(&draft, breaks.as_slice()) {
                 return Err(Stop::Fault(()));
             }
-            let job = with_track(job, breaks)?;
-            Ok(JobState::Body { job })
+            let draft = with_track(draft, breaks)?;
+            Ok(JobState::Body { draft })
         }
         JobLine::Connection { connection } => {
-            if !takes_connection(&job.problem, connection) {
+            if !takes_connection(&draft, connection) {
                 return Err(Stop::Fault(()));
             }
-            let job = with_connection(job, connection)?;
-            Ok(JobState::Body { job })
+            let draft = with_connection(draft, connection)?;
+            Ok(JobState::Body { draft })
         }
         JobLine::End => {
-            if job.problem.tracks.len() == 0 {
+            if draft.tracks.len() == 0 {
                 return Err(Stop::Fault(()));
             }
-            Ok(JobState::End { job })
+            Ok(JobState::End { draft })
         }
         _ => Err(Stop::Fault(())),
     }
@@ -103,12 +104,12 @@ pub(crate) fn step(alloc: Global, state: JobState, line: JobLine) -> Result<JobS
             JobLine::Budget { budget } => if_so(
                 is_within(1, 1_000_000_000_000, budget),
                 JobState::Body {
-                    job: empty_job(alloc, columns, k, budget),
+                    draft: empty_draft(alloc, columns, k, budget),
                 },
             ),
             _ => Err(Stop::Fault(())),
         },
-        JobState::Body { job } => body_step(job, line),
-        JobState::End { job: _ } => Err(Stop::Fault(())),
+        JobState::Body { draft } => body_step(draft, line),
+        JobState::End { draft: _ } => Err(Stop::Fault(())),
     }
 }

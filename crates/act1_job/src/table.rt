@@ -5,9 +5,9 @@ ghost use Rattle.act1_table.specs.Values.{number_up_to};
 ghost use Rattle.act1_job.specs.Lines as lines;
 ghost use Rattle.act1_job.specs.Lines.{job_table, job_format};
 
-use crate::job::Connection;
 use crate::line::JobLine;
 use act1_base::{Items, Memory};
+use act1_channel::Connection;
 use act1_table::{Field, Form, Given, Limit, LineGiven, Part, at_most, number_at, read_line};
 use std::alloc::Global;
 

@@ -6,9 +6,9 @@ ghost use Rattle.act1_job.specs.Lines.{job_table, given_of, job_text};
 ghost use Rattle.act1_job.specs.WriteSteps.{head_words, track_words, connection_words};
 ghost use Rattle.act1_job.specs.declared.line.JobLine.TheVariants.{Header, Budget};
 
-use crate::job::{Connection, Problem};
 use crate::table::{BUDGET, COLUMNS, CONNECTION, END, HEADER, K, TRACK, job_table};
 use act1_base::{Items, Memory};
+use act1_channel::{Connection, Problem};
 use act1_table::{LineGiven, write_line};
 use std::alloc::Global;
 

@@ -9,12 +9,12 @@ use Rattle.act1_channel.proofs.Breaks.{clash_is}
 abbrev pub span : ℕ → ℕ → Connection
 span left right = record { left = left; right = right }
 
-cut_is_problem : is_problem 9 3 ((3 ∷ 6 ∷ []) ∷ []) (span 2 6 ∷ []) ≡ true
+pub cut_is_problem : is_problem 9 3 ((3 ∷ 6 ∷ []) ∷ []) (span 2 6 ∷ []) ≡ true
 unfolding is_problem
 cut_is_problem = refl
 
 -- nine columns and one track, whose segments are the columns 0 to 2, 3 to 5 and 6 to 8
-abbrev cut : Problem
+abbrev pub cut : Problem
 cut = record { columns = 9; k = 3; tracks = (3 ∷ 6 ∷ []) ∷ []; connections = span 2 6 ∷ []; valid = cut_is_problem }
 
 three_segments : segments cut 0 0 ≡ 3

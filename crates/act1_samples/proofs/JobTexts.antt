@@ -4,16 +4,18 @@ use Rattle.std.specs.Prelude.{codes, Result, Ok, Err}
 use Rattle.std.specs.Fmt.{digits}
 use Rattle.act1_base.specs.Texts.{reading}
 use Rattle.act1_base.specs.declared.texts.TextFault.{TextFault}
+use Rattle.act1_channel.specs.declared.problem.Connection.{Connection}
 use Rattle.act1_job.specs.Jobs.{is_job}
-use Rattle.act1_job.specs.Lines.{job_text}
+use Rattle.act1_job.specs.Lines.{draft_of, draft_text, job_text}
 use Rattle.act1_job.specs.Steps.{Fault, job_rules}
-use Rattle.act1_job.specs.declared.job.Connection.{Connection}
+use Rattle.act1_job.specs.declared.draft.Draft.{Draft}
 use Rattle.act1_job.specs.declared.job.Job.{Job}
 use Rattle.act1_job.specs.declared.line.JobState.{JobState}
 use Rattle.act1_job.specs.declared.line.JobState.TheVariants.{End}
+use Rattle.act1_samples.proofs.Channels.{cut}
 
-abbrev job_of : ℕ → ℕ → ℕ → List (List ℕ) → List Connection → Job
-job_of columns k budget tracks connections = record { problem = record { columns = columns; k = k; tracks = tracks; connections = connections }; budget = budget }
+abbrev says : ℕ → ℕ → ℕ → List (List ℕ) → List Connection → Draft
+says columns k budget tracks connections = record { columns = columns; k = k; budget = budget; tracks = tracks; connections = connections }
 
 abbrev from : ℕ → ℕ → Connection
 from left right = record { left = left; right = right }
@@ -22,37 +24,37 @@ from left right = record { left = left; right = right }
 abbrev read : List ℕ → Result JobState (TextFault Fault)
 read bytes = reading job_rules bytes
 
-abbrev Reads : List ℕ → Job → Type 0
-Reads bytes job = read bytes ≡ Ok (End job)
+abbrev Reads : List ℕ → Draft → Type 0
+Reads bytes said = read bytes ≡ Ok (End said)
 
 abbrev FaultsAt : List ℕ → ℕ → Type 0
 FaultsAt bytes n = read bytes ≡ Err (record { line = n; kind = tt })
 
 -- one track of three segments, and a connection that overlaps all of them
 abbrev pub at_the_bound : Job
-at_the_bound = job_of 9 3 10 ((3 ∷ 6 ∷ []) ∷ []) (from 2 6 ∷ [])
+at_the_bound = record { problem = cut; budget = 10 }
 
 bound_fits : is_job at_the_bound ≡ true
 bound_fits = refl
 
 bound_text : job_text at_the_bound ≡ codes "act1 job 1\ncolumns 9\nk 3\nbudget 10\ntrack 3 6\nconnection 2 6\nend\n"
-unfolding job_text digits
+unfolding draft_text digits
 bound_text = refl
 
-bound_read : Reads (codes "act1 job 1\ncolumns 9\nk 3\nbudget 10\ntrack 3 6\nconnection 2 6\nend\n") at_the_bound
+bound_read : Reads (codes "act1 job 1\ncolumns 9\nk 3\nbudget 10\ntrack 3 6\nconnection 2 6\nend\n") (draft_of at_the_bound)
 bound_read = refl
 
 -- two tracks, one of which has no break, and three connections
-two_tracks : Reads (codes "act1 job 1\ncolumns 6\nk 3\nbudget 1\ntrack\ntrack 2\nconnection 0 3\nconnection 1 4\nconnection 2 5\nend\n") (job_of 6 3 1 ([] ∷ (2 ∷ []) ∷ []) (from 0 3 ∷ from 1 4 ∷ from 2 5 ∷ []))
+two_tracks : Reads (codes "act1 job 1\ncolumns 6\nk 3\nbudget 1\ntrack\ntrack 2\nconnection 0 3\nconnection 1 4\nconnection 2 5\nend\n") (says 6 3 1 ([] ∷ (2 ∷ []) ∷ []) (from 0 3 ∷ from 1 4 ∷ from 2 5 ∷ []))
 two_tracks = refl
 
 -- no connections
-no_connections : Reads (codes "act1 job 1\ncolumns 64\nk 64\nbudget 1000000000000\ntrack 1 63\nend\n") (job_of 64 64 1000000000000 ((1 ∷ 63 ∷ []) ∷ []) [])
+no_connections : Reads (codes "act1 job 1\ncolumns 64\nk 64\nbudget 1000000000000\ntrack 1 63\nend\n") (says 64 64 1000000000000 ((1 ∷ 63 ∷ []) ∷ []) [])
 no_connections = refl
 
 -- texts that are cut, or go on
-cut : FaultsAt (codes "act1 job 1\ncolumns 9\nk 3\nbudget 10\ntrack 3 6\nconnection 2 6\n") 7
-cut = refl
+cut_off : FaultsAt (codes "act1 job 1\ncolumns 9\nk 3\nbudget 10\ntrack 3 6\nconnection 2 6\n") 7
+cut_off = refl
 
 empty : FaultsAt [] 1
 empty = refl

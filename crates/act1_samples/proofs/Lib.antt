@@ -7,6 +7,7 @@ pub mod Devices
 pub mod Diagrams
 pub mod HeldLatch
 pub mod JobTexts
+pub mod LogTexts
 pub mod Matches
 pub mod Modules
 pub mod NetlistTexts

@@ -4,15 +4,12 @@ use Rattle.std.specs.Prelude.{codes, Some, None}
 use Rattle.std.specs.Fmt.{digits}
 use Rattle.act1_table.specs.Clear.{is_clear}
 use Rattle.act1_table.specs.Lines.{line_text, read_line}
-use Rattle.act1_table.specs.Table.{Text, Number, Field, Name, OneOf, Form}
+use Rattle.act1_table.specs.Table.{Text, Number, Field, Name, OneOf, Form, word}
 use Rattle.act1_table.specs.Values.{fixed, number}
 use Rattle.act1_table.specs.declared.forms.Given.{Given}
 use Rattle.act1_table.specs.declared.forms.Given.TheVariants as given
 use Rattle.act1_table.specs.declared.forms.Limit.TheVariants.{Most, Cap}
 use Rattle.act1_table.specs.declared.forms.LineGiven.{LineGiven}
-
-abbrev word : List ℕ → Field
-word bytes = OneOf ((Text bytes ∷ []) ∷ [])
 
 abbrev any_number : Field
 any_number = OneOf ((Number (Cap 65536) ∷ []) ∷ [])

@@ -1,7 +1,8 @@
 -- Tables of forms, as data. The tables of the code are seen as these.
-use Rattle.std.specs.Prelude.{ℕ, List, map}
+use Rattle.std.specs.Prelude.{ℕ, List, [], ◌∷◌, map}
 use Rattle.std.specs.Borrow.{Bor}
 use Rattle.act1_table.specs.declared.forms.Limit.{Limit}
+use Rattle.act1_table.specs.declared.forms.Limit.TheVariants.{Most}
 use Rattle.act1_table.specs.declared.forms.Part as coded_part
 use Rattle.act1_table.specs.declared.forms.Part.TheVariants as part
 use Rattle.act1_table.specs.declared.forms.Field as coded_field
@@ -22,6 +23,18 @@ pub data Field : Type 0 where
 pub record Form : Type 0 where
   pub fields : List Field
   pub rest : Field
+
+-- this word and no other
+abbrev pub word : List ℕ → Field
+word bytes = OneOf ((Text bytes ∷ []) ∷ [])
+
+-- a number of at most this
+abbrev pub up_to : ℕ → Field
+up_to most = OneOf ((Number (Most most) ∷ []) ∷ [])
+
+-- no word
+abbrev pub nothing : Field
+nothing = OneOf []
 
 abbrev pub part_of : coded_part.Part → Part
 part_of (part.Text text) = Text text.now

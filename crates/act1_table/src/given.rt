@@ -1,5 +1,6 @@
 ghost use Rattle.std.specs.Prelude.{◌≡◌, [], ◌∷◌, ◌++◌, OnOk};
 ghost use Rattle.act1_table.specs.Values.{fixed, number, with_word};
+ghost use Rattle.act1_table.specs.declared.forms.Given.TheVariants.{Way};
 
 use crate::forms::{Given, LineGiven};
 use crate::numbers::Numbers;
@@ -32,5 +33,13 @@ impl LineGiven {
         let mut numbers = Numbers::new(alloc);
         numbers.push(n)?;
         self.words.push(Given::Way { way: 0, numbers })
+    }
+
+    /// Adds a word of the way of this number among those of its field, with these numbers.
+    pub fn add_way(&mut self, alloc: Global, way: usize, numbers: &[u64]) -> Result<(), Memory>
+        ensures { OnOk result (self.new ≡ with_word self.old (Way way numbers.now)) }
+    {
+        let numbers = Numbers::from_slice(alloc, numbers)?;
+        self.words.push(Given::Way { way, numbers })
     }
 }

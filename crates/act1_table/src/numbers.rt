@@ -1,4 +1,4 @@
-ghost use Rattle.std.specs.Prelude.{◌≡◌, [], ◌∷◌, ◌++◌, OnOk};
+ghost use Rattle.std.specs.Prelude.{◌≡◌, [], ◌∷◌, ◌++◌, IfOk, OnOk};
 
 use act1_base::Memory;
 use smallvec::SmallVec;
@@ -27,6 +27,15 @@ impl Numbers {
         Numbers {
             items: SmallVec::new(alloc),
         }
+    }
+
+    /// These numbers.
+    pub fn from_slice(alloc: Global, numbers: &[u64]) -> Result<Numbers, Memory>
+        ensures { IfOk result (λ it. it ≡ numbers.now) }
+    {
+        Ok(Numbers {
+            items: SmallVec::from_slice(alloc, numbers)?,
+        })
     }
 
     /// Adds a number at the end.

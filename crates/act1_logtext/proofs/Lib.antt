@@ -1,0 +1,5 @@
+pub mod AnswerTexts
+pub mod AnswerWrites
+pub mod LogTexts
+pub mod SameLogs
+pub mod StepWords
