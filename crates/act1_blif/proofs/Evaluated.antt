@@ -9,7 +9,8 @@ use Rattle.act1_base.proofs.ListGets.{some_is, get_within, place_of}
 use Rattle.act1_blif.specs.declared.blif.Blif.{Blif}
 use Rattle.act1_blif.specs.declared.blif.Node.{Node}
 use Rattle.act1_blif.specs.Run.{Fits, node_value, signal}
-use Rattle.act1_blif.specs.ValuationSteps.{AreEvaluated, first_node, reads_of}
+use Rattle.act1_blif.specs.Graph.{first_node, reads_of}
+use Rattle.act1_blif.specs.ValuationSteps.{AreEvaluated}
 use Rattle.act1_blif.proofs.NetGraph.{node_reads, length_reads}
 use Rattle.act1_blif.proofs.OneValuation.{front, back, at_node, has_node, map_same, cases}
 

@@ -12,7 +12,8 @@ use Rattle.act1_blif.specs.declared.blif.Node.{Node}
 use Rattle.act1_blif.specs.Run.{Fits, node_value, signal}
 use Rattle.act1_blif.specs.Rules.{HasLevels}
 use Rattle.act1_blif.specs.Laws.{HasOneValuation, EachHasOneValuation}
-use Rattle.act1_blif.proofs.NetFacts.{signal_count, node_is, node_inputs}
+use Rattle.act1_blif.specs.Graph.{signal_count}
+use Rattle.act1_blif.proofs.NetFacts.{node_is, node_inputs}
 use Rattle.act1_blif.proofs.OneValuation.{front, back, long, at_node, has_node, map_same, map_nodes, cases, one_valuation}
 
 abbrev total : List ℕ → ℕ

@@ -5,7 +5,8 @@ use Rattle.std.proofs.lemmas.Bool.{and_parts, or_parts, not-true, ltb-true, eqb-
 use Rattle.std.proofs.lemmas.Map.Steps.{length-le_from_distinct_below}
 use Rattle.act1_base.specs.Names.{are_different_numbers}
 use Rattle.act1_blif.specs.Laws.{PortsAreFew}
-use Rattle.act1_blif.proofs.NetFacts.{signal_count, few_signals, outputs_are}
+use Rattle.act1_blif.specs.Graph.{signal_count}
+use Rattle.act1_blif.proofs.NetFacts.{few_signals, outputs_are}
 
 -- the number is none of these
 other_numbers : (n : ℕ) (ns : List ℕ) → list_any (λ m. n == m) ns ≡ false → AllByRecursion (λ (m : ℕ). eqb n m ≡ false) ns

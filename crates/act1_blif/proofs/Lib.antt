@@ -7,3 +7,4 @@ pub mod NetGraph
 pub mod OneValuation
 pub mod Signals
 pub mod LineGrows
+pub mod WholeNets

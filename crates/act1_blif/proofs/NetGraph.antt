@@ -7,8 +7,8 @@ use Rattle.act1_order.specs.Order.{Reads, AreReads, LeadsTo, OnRing}
 use Rattle.act1_blif.specs.declared.blif.Blif.{Blif}
 use Rattle.act1_blif.specs.declared.blif.Node.{Node}
 use Rattle.act1_blif.specs.Rules.{HasLevels}
-use Rattle.act1_blif.specs.ValuationSteps.{first_node, reads_of}
-use Rattle.act1_blif.proofs.NetFacts.{signal_count, node_is, node_inputs}
+use Rattle.act1_blif.specs.Graph.{first_node, reads_of, signal_count}
+use Rattle.act1_blif.proofs.NetFacts.{node_is, node_inputs}
 
 -- a signal that reads one is a node's, and the node has that one as an input
 pub record IsReader (nodes : List Node) (first s w : ℕ) : Type 0 where

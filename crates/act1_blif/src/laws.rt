@@ -1,4 +1,4 @@
-ghost use Rattle.act1_blif.specs.Laws.{EachHasOneValuation, EachHasSignals, LatchNamesDiffer, PortsAreFew};
+ghost use Rattle.act1_blif.specs.Laws.{EachHasOneValuation, EachHasSignals, EachIsWhole, LatchNamesDiffer, PortsAreFew};
 
 /// The law of valuations: a netlist has exactly one at each of its states and each of its inputs.
 pub fn one_valuation()
@@ -20,4 +20,9 @@ pub fn latch_names_differ()
 /// the same ports can number them.
 pub fn ports_are_few()
     ensures { PortsAreFew }
+{}
+
+/// The law of ranges: each netlist has at most 65,535 signals, and all that it reads is one of them.
+pub fn netlists_are_whole()
+    ensures { EachIsWhole }
 {}

@@ -8,6 +8,9 @@ mod text;
 mod valuation;
 
 pub use blif::{Blif, Latch, Node};
-pub use laws::{latch_names_differ, one_valuation, ports_are_few, valuations_have_signals};
+pub use laws::{
+    latch_names_differ, netlists_are_whole, one_valuation, ports_are_few, valuations_have_signals,
+};
+pub use names::signal_name;
 pub use text::blif_text;
-pub use valuation::values;
+pub use valuation::{order_of, values};

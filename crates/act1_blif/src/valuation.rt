@@ -2,7 +2,8 @@ ghost use Rattle.std.specs.Prelude.{ℕ, Some, OnOk, slice_get, slice_set, ◌�
 ghost use Rattle.act1_order.specs.Order.{IsOrder};
 ghost use Rattle.act1_blif.specs.Run.{Fits, node_value};
 ghost use Rattle.act1_blif.specs.declared.blif.Node.{Node};
-ghost use Rattle.act1_blif.specs.ValuationSteps.{AreEvaluated, first_node, reads_of};
+ghost use Rattle.act1_blif.specs.Graph.{first_node, reads_of};
+ghost use Rattle.act1_blif.specs.ValuationSteps.{AreEvaluated};
 
 use crate::blif::{Blif, Node};
 use act1_base::{Items, Memory};
@@ -24,9 +25,12 @@ fn reads_of(alloc: Global, blif: &Blif) -> Result<Vec<Items<u16>>, Memory>
     Ok(reads)
 }
 
-// The signals in an order in which each stands after those that it reads. No signal lies on a ring,
-// by the invariant of a netlist.
-fn order_of(alloc: Global, blif: &Blif) -> Result<Items<u16>, Memory>
+/// The signals in an order in which each stands after those that it reads at once: a node reads its
+/// inputs, and inputs and latches read none. No signal lies on a ring, by the invariant of a netlist.
+///
+/// It takes time and memory in proportion to the signals and the inputs of nodes. The one error is
+/// `Memory`.
+pub fn order_of(alloc: Global, blif: &Blif) -> Result<Items<u16>, Memory>
     ensures { IfOk result (IsOrder (reads_of blif.now)) }
 {
     let reads = reads_of(alloc, blif)?;

@@ -12,7 +12,7 @@ use std::io::Read;
 use std::rt::Files;
 
 // A file has at most so many bytes.
-const MOST_BYTES: u64 = 1 << 20;
+const MOST_BYTES: u64 = 1 << 24;
 
 // No number of a row is greater.
 const MOST: u64 = 1_000_000_000;

@@ -64,8 +64,8 @@ pub fn answer_row(alloc: Global, words: &[&str], text: &mut String) -> Option<()
     }
 }
 
-// Adds what the check of a log answers.
-fn add_verdict(alloc: Global, problem: &Problem, log: &Log, text: &mut String) -> Option<()> {
+/// Adds what the check of a log answers.
+pub fn add_verdict(alloc: Global, problem: &Problem, log: &Log, text: &mut String) -> Option<()> {
     match check(alloc, problem, log) {
         Ok(()) => text.push_str("accepted\n").ok(),
         Err(CheckFault::Step(step)) => writeln!(text, "step {step}").ok(),

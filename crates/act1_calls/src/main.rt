@@ -18,6 +18,9 @@
 //! | `count V` | how many of all tables of V variables, at most four, one module can be |
 //! | `scattered N` | how many of N tables of six variables one module can be: every other one is made of pins, the others have scattered bits |
 //! | `diagrams BLIF N COUNT` | how many of so many diagrams of a cover, each with forks of its own, have at most N forks |
+//! | `clean BLIF` | the latches, nodes and outputs of the cleaned netlist |
+//! | `plain BLIF` | the same of the netlist as it stands |
+//! | `shrunk BLIF` | how many latches and nodes a netlist has, and how many when it is cleaned |
 //! | `job JOB` | the job as it is written, or the line that is refused |
 //! | `segments JOB C T` | how many segments of track T connection C of the job's problem overlaps |
 //! | `allowed JOB C T` | whether the connection may take the track |
@@ -28,6 +31,7 @@
 //! | `check JOB TEXT` | whether a log is accepted for the job's problem, or why it isn't |
 //! | `checked JOB LOG` | the same of a log's file of at most 256 MiB |
 //! | `copied LOG` | whether the log of such a file is written as it is read |
+//! | `search JOB N` | how the search of a job's problem ends under the budget N: tracks and whether they fit; or the number of steps, up to twenty of them, and whether the log is accepted; or that it is spent |
 //! | `written DEVICE FUSES` | the antifuse file as it is written |
 //! | `filled B DEVICE FUSES VECTORS` | the outputs where each module without a start of 0 or 1 begins with B |
 //! | `form DEVICE FUSES` | the latch pairs of the circuit, master and slave, and its other modules; or the first fault |
@@ -43,6 +47,8 @@ mod input;
 mod jobs;
 mod logs;
 mod netlists;
+mod nets;
+mod searches;
 mod tables;
 
 use input::{bytes_of, number_row};
@@ -75,6 +81,9 @@ fn add_given<R: Files>(rt: &R, alloc: Global, words: &[&str], text: &mut String)
         "root" => diagrams::root_row(rt, alloc, words, text),
         "count" => tables::count_row(words, text),
         "scattered" => tables::scattered_row(words, text),
+        "clean" => nets::clean_row(rt, alloc, words, text),
+        "plain" => nets::plain_row(rt, alloc, words, text),
+        "shrunk" => nets::shrunk_row(rt, alloc, words, text),
         "job" => jobs::job_row(rt, alloc, words, text),
         "segments" => channels::segments_row(rt, alloc, words, text),
         "allowed" => channels::allowed_row(rt, alloc, words, text),
@@ -85,6 +94,7 @@ fn add_given<R: Files>(rt: &R, alloc: Global, words: &[&str], text: &mut String)
         "check" => logs::check_row(rt, alloc, words, text),
         "checked" => logs::checked_row(rt, alloc, words, text),
         "copied" => logs::copied_row(rt, alloc, words, text),
+        "search" => searches::search_row(rt, alloc, words, text),
         "written" => arrays::written_row(rt, alloc, words, text),
         "filled" => arrays::filled_row(rt, alloc, words, text),
         "form" => circuits::form_row(rt, alloc, words, text),

@@ -9,6 +9,12 @@ module _ {X : Type 0} where
   get_taken (y ∷ xs) (suc n) zero x e = (omega arith, e)
   get_taken (y ∷ xs) (suc n) (suc i) x e = let r = get_taken xs n i x e in let low = r.0 in (omega arith, r.1)
 
+  pub get_take : (xs : List X) (n i : ℕ) (x : X) → i < n → slice_get xs i ≡ Some x → slice_get (take n xs) i ≡ Some x
+  get_take xs zero i x low e = absurd (omega arith)
+  get_take [] (suc n) i x low e = cc
+  get_take (y ∷ xs) (suc n) zero x low e = e
+  get_take (y ∷ xs) (suc n) (suc i) x low e = get_take xs n i x (omega arith) e
+
   pub take_next : (xs : List X) (n : ℕ) (x : X) → slice_get xs n ≡ Some x → take (suc n) xs ≡ take n xs ++ x ∷ []
   take_next [] n x e = cc
   take_next (y ∷ xs) zero x e = cc

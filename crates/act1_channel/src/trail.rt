@@ -1,4 +1,4 @@
-ghost use Rattle.std.specs.Prelude.{ℕ, ◌≡◌, ◌<◌, ◌*◌, ◌-◌, ◌≤◌, None, [], ◌∷◌, ◌++◌, take, length, IfOk, slice_index_or};
+ghost use Rattle.std.specs.Prelude.{ℕ, ◌≡◌, ◌<◌, ◌*◌, ◌-◌, ◌≤◌, None, Some, [], ◌∷◌, ◌++◌, take, length, IfOk, slice_get, slice_index_or};
 ghost use Rattle.act1_channel.specs.Found.{facts_of, truth_in, HasPlace, Tell};
 
 use crate::problem::{Choice, Hint};
@@ -62,6 +62,23 @@ impl Trail {
             table: no_facts(alloc, connections * tracks)?,
             tracks,
         })
+    }
+
+    /// How many facts there are.
+    pub fn len(&self) -> usize
+        ensures len { result ≡ length self.now.entries }
+        ensures room { result ≤ self.now.places }
+    {
+        self.used
+    }
+
+    /// The fact of a number, from 0.
+    pub fn entry(&self, at: usize) -> Entry
+        requires { at < length self.now.entries }
+        ensures entry { slice_get self.now.entries at ≡ Some result }
+        ensures truth { truth_in self.now.entries result.choice ≡ Some result.truth }
+    {
+        self.entries[at]
     }
 
     /// Whether a choice is taken or refused, or `None` where there is no fact about it.

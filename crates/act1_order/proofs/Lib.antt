@@ -5,3 +5,4 @@ pub mod ReadersLemmas
 pub mod RingLemmas
 pub mod SearchLemmas
 pub mod SortedLemmas
+pub mod RootLemmas

@@ -1,6 +1,7 @@
 -- What leads to some vertices, and what is known of it in the middle of a search.
 use Rattle.std.specs.Prelude.{ℕ, ◌≡◌, List, [], ◌+◌, ◌<◌, ◌≤◌, Bool, true, false, not, min, Contains, Option, Some, None, slice_get, length, count_by, ◌⊎◌}
 use Rattle.act1_order.specs.Order.{Reads, OnRing}
+use Rattle.act1_order.specs.Reach.{IsReached}
 use Rattle.act1_order.specs.ClosingSteps.{LeadsFrom}
 use Rattle.act1_order.specs.declared.reach.Reached.{Reached}
 
@@ -51,3 +52,11 @@ least_with (Some first) v true = Some (min first v)
 abbrev pub IsLeastFrom : List (List ℕ) → List ℕ → ℕ → Option ℕ → Type 0
 IsLeastFrom reads order p None = (q z : ℕ) → p ≤ q → slice_get order q ≡ Some z → OnRing reads z → ⊥
 IsLeastFrom reads order p (Some first) = (first < length reads) × OnRing reads first × ((q z : ℕ) → p ≤ q → slice_get order q ≡ Some z → OnRing reads z → first ≤ z)
+
+-- each root is marked, and each marked vertex is one that the roots lead to; what a marked vertex reads is marked, unless the vertex is still to be looked at
+pub record IsReaching (reads : List (List ℕ)) (roots : List ℕ) (s : Reached) : Type 0 where
+  pub all : length s.marks.items ≡ length reads
+  pub only : (u : ℕ) → IsMarked s.marks.items u → IsReached reads roots u
+  pub roots_marked : (u : ℕ) → Contains roots u → IsMarked s.marks.items u
+  pub left_marked : (u : ℕ) → Contains s.left.items u → IsMarked s.marks.items u
+  pub closed : (u w : ℕ) → IsMarked s.marks.items u → Reads reads u w → IsMarked s.marks.items w ⊎ Contains s.left.items u

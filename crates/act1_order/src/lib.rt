@@ -14,3 +14,4 @@ mod sorted;
 pub use laws::rings_and_levels;
 pub use order::sources_first;
 pub use ordering::Ordering;
+pub use reach::reached_from;

@@ -1,6 +1,7 @@
 ghost use Rattle.std.specs.Prelude.{ℕ, ◌≡◌, ◌<◌, ◌+◌, ◌↔◌, [], ◌∷◌, false, replicate, All, IsTrue, IfOk, OnOk, length, slice_get, slice_index_or, Some};
 ghost use Rattle.act1_order.specs.Order.{AreReads, OnRing};
 ghost use Rattle.act1_order.specs.ClosingSteps.{IsClosingOrder};
+ghost use Rattle.act1_order.specs.Reach.{AreReachedFrom};
 ghost use Rattle.act1_order.specs.ReadersSteps.{AreReaders};
 ghost use Rattle.act1_order.specs.ReachSteps.{AreMarkedFrom, HasMarked, Marks};
 
@@ -96,4 +97,22 @@ impl Reached {
         }
         Ok(self.has_marked(reads_of(reads, vertex)))
     }
+}
+
+/// Which vertices some roots lead to: the roots, those that they read, those that these read, and so on.
+/// `reads` has for each vertex the vertices that it reads, in any order and perhaps several times.
+///
+/// It takes time in proportion to the roots, vertices and edges, and memory in proportion to the
+/// vertices. The one error is `Memory`.
+pub fn reached_from(alloc: Global, reads: &[Items<u16>], roots: &[u16]) -> Result<Vec<bool>, Memory>
+    requires inside { AreReads reads.now }
+    requires roots { All (λ root. root < length reads.now) roots.now }
+    ensures { IfOk result (λ marks. AreReachedFrom reads.now roots.now marks.items) }
+{
+    let mut reached = Reached::new(alloc, reads.len())?;
+    reached.mark_all(roots)?;
+    while let Some(next) = reached.left.pop() {
+        reached.mark_all(reads_of(reads, next))?;
+    }
+    Ok(reached.marks)
 }

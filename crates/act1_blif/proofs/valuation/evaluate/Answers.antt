@@ -3,7 +3,8 @@ use Rattle.std.specs.Prelude.{slice_set}
 use Rattle.act1_base.proofs.ListGets.{some_is}
 use Rattle.act1_blif.specs.declared.blif.Node.{Node}
 use Rattle.act1_blif.specs.Run.{node_value}
-use Rattle.act1_blif.proofs.NetFacts.{signal_count, node_is, node_width, read_node}
+use Rattle.act1_blif.specs.Graph.{signal_count}
+use Rattle.act1_blif.proofs.NetFacts.{node_is, node_width, read_node}
 use Rattle.act1_blif.proofs.valuation.evaluate.Goals as goal
 
 pub node_value-requires-clause-width : goal.node_value-requires-clause-width

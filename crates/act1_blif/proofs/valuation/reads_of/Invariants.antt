@@ -1,6 +1,6 @@
 use Rattle.std.proofs.Common.{◌≡◌, ◌++◌, [], map, replicate, take}
 use Rattle.act1_blif.specs.declared.blif.Node.{Node}
-use Rattle.act1_blif.specs.ValuationSteps.{first_node}
+use Rattle.act1_blif.specs.Graph.{first_node}
 use Rattle.act1_blif.proofs.valuation.reads_of.Given as goal
 
 -- inputs and latches read none at once

@@ -1,7 +1,8 @@
 use Rattle.std.proofs.Common.{ℕ, ◌≡◌, List, length, Some, sym, ap, subst, ◌∙◌, arith}
 use Rattle.std.proofs.lemmas.Option.{slice_get-get_or}
 use Rattle.act1_order.specs.Order.{IsOrder}
-use Rattle.act1_blif.specs.ValuationSteps.{reads_of, AreEvaluated}
+use Rattle.act1_blif.specs.Graph.{reads_of}
+use Rattle.act1_blif.specs.ValuationSteps.{AreEvaluated}
 use Rattle.act1_blif.proofs.Evaluated.{signal_next, all_fit}
 use Rattle.act1_blif.proofs.valuation.values.Goals as goal
 

@@ -1,0 +1,15 @@
+pub mod Chosen
+pub mod CleanNets
+pub mod FitLists
+pub mod GateValues
+pub mod Keys
+pub mod KeptNodes
+pub mod LeftCovers
+pub mod ListSteps
+pub mod MarkFacts
+pub mod NewNets
+pub mod Passing
+pub mod SameNets
+pub mod Showing
+pub mod Tables
+pub mod Tests

@@ -1,0 +1,12 @@
+pub mod Answers
+pub mod Closure
+pub mod Deciding
+pub mod Exact
+pub mod Explaining
+pub mod Laws
+pub mod Propagation
+pub mod Search
+pub mod Trail
+pub mod Watch
+pub mod Watched
+pub mod Watching
