@@ -6,8 +6,8 @@ use std::alloc::Global;
 use std::fmt::Write;
 use std::rt::Files;
 
-// The connection of this number, if the problem has it.
-fn connection_of(problem: &Problem, word: &str) -> Option<u16>
+/// The connection of this number, if the problem has it.
+pub fn connection_of(problem: &Problem, word: &str) -> Option<u16>
     ensures { IfSome result (λ c. c < length problem.now.connections) }
 {
     let c = u16::try_from(number(word)?).ok()?;
@@ -18,8 +18,8 @@ fn connection_of(problem: &Problem, word: &str) -> Option<u16>
     }
 }
 
-// The track of this number, if the problem has it.
-fn track_of(problem: &Problem, word: &str) -> Option<u8>
+/// The track of this number, if the problem has it.
+pub fn track_of(problem: &Problem, word: &str) -> Option<u8>
     ensures { IfSome result (λ t. t < length problem.now.tracks) }
 {
     let t = u8::try_from(number(word)?).ok()?;

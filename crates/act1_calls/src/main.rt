@@ -32,6 +32,7 @@
 //! | `checked JOB LOG` | the same of a log's file of at most 256 MiB |
 //! | `copied LOG` | whether the log of such a file is written as it is read |
 //! | `search JOB N` | how the search of a job's problem ends under the budget N: tracks and whether they fit; or the number of steps, up to twenty of them, and whether the log is accepted; or that it is spent |
+//! | `watch JOB WORD ..` | what a watch of a job's problem knows at first, and after each choice `C@T` that is assumed and each `learn`: the number of choices, and `conflict` or the choices that are taken and, behind a bar, those that are refused |
 //! | `written DEVICE FUSES` | the antifuse file as it is written |
 //! | `filled B DEVICE FUSES VECTORS` | the outputs where each module without a start of 0 or 1 begins with B |
 //! | `form DEVICE FUSES` | the latch pairs of the circuit, master and slave, and its other modules; or the first fault |
@@ -50,6 +51,7 @@ mod netlists;
 mod nets;
 mod searches;
 mod tables;
+mod watches;
 
 use input::{bytes_of, number_row};
 use std::alloc::{AllocError, Global};
@@ -95,6 +97,7 @@ fn add_given<R: Files>(rt: &R, alloc: Global, words: &[&str], text: &mut String)
         "checked" => logs::checked_row(rt, alloc, words, text),
         "copied" => logs::copied_row(rt, alloc, words, text),
         "search" => searches::search_row(rt, alloc, words, text),
+        "watch" => watches::watch_row(rt, alloc, words, text),
         "written" => arrays::written_row(rt, alloc, words, text),
         "filled" => arrays::filled_row(rt, alloc, words, text),
         "form" => circuits::form_row(rt, alloc, words, text),

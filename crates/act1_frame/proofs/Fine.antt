@@ -1,5 +1,5 @@
 -- Which statuses and files the endings of a command have, stage by stage.
-use Rattle.std.proofs.Common.{ℕ, ◌≡◌, ◌≢◌, ◌≤◌, ◌⊎◌, List, [], ◌∷◌, Option, Some, None, Contains, codes, inl, inr, refl, sym, ap, subst, ◌∙◌, arith}
+use Rattle.std.proofs.Common.{ℕ, ◌≡◌, ◌≢◌, ◌≤◌, List, Some, Contains, inl, inr, sym, ap, subst, ◌∙◌, arith}
 use Rattle.act1_outside.specs.Outside.{Shelf}
 use Rattle.act1_frame.specs.declared.ending.Ending.{Ending}
 use Rattle.act1_frame.specs.declared.ending.FileText.{FileText}
@@ -70,14 +70,14 @@ module _ (Usage : Type 0) (reads : List Wanted) (writes_at : ℕ → List (List 
 pub status_of_text : (status : ℕ) (text : List ℕ) (e : Ending) → e ≡ with_text status text → e.status ≡ status
 status_of_text status text e h = ap (λ (p : Ending). p.status) h
 
--- at status 0 a command didn't stop at a file
-pub went_on : {X : Type 0} (IsText : List ℕ → X → Type 0) (Refuses : List ℕ → Ending → Type 0) (before after : Shelf) (wanted : Wanted) (Rest : X → Ending → Type 0) → ((bytes : List ℕ) (p : Ending) → Refuses bytes p → p.status ≢ 0)
-    → (e : Ending) → Reads IsText Refuses before after wanted Rest e → e.status ≡ 0 → (x : X) × Found IsText before wanted x × Rest x e
-went_on IsText Refuses before after wanted Rest refused e (inl (inl (inl h))) zero = let two = status_of_text 2 _ e h.1 in absurd (omega arith)
-went_on IsText Refuses before after wanted Rest refused e (inl (inl (inr h))) zero = let long = status_of_text 16 _ e h.1 in absurd (omega arith)
-went_on IsText Refuses before after wanted Rest refused e (inl (inr h)) zero = elim (refused h.0 e h.2 zero) [ ]
-went_on IsText Refuses before after wanted Rest refused e (inr h) zero = h
+-- at a status that no stop at the file has a command didn't stop there
+pub went_on : {X : Type 0} (IsText : List ℕ → X → Type 0) (Refuses : List ℕ → Ending → Type 0) (before after : Shelf) (wanted : Wanted) (Rest : X → Ending → Type 0) (status : ℕ) → status ≢ 2 → status ≢ 16
+    → ((bytes : List ℕ) (p : Ending) → Refuses bytes p → p.status ≢ status) → (e : Ending) → Reads IsText Refuses before after wanted Rest e → e.status ≡ status → (x : X) × Found IsText before wanted x × Rest x e
+went_on IsText Refuses before after wanted Rest status two sixteen refused e (inl (inl (inl h))) is = elim (two (sym is ∙ status_of_text 2 _ e h.1)) [ ]
+went_on IsText Refuses before after wanted Rest status two sixteen refused e (inl (inl (inr h))) is = elim (sixteen (sym is ∙ status_of_text 16 _ e h.1)) [ ]
+went_on IsText Refuses before after wanted Rest status two sixteen refused e (inl (inr h)) is = elim (refused h.0 e h.2 is) [ ]
+went_on IsText Refuses before after wanted Rest status two sixteen refused e (inr h) is = h
 
--- a refusal isn't done
-pub refused_not_done : {F : Type 0} (status : ℕ) (words : F → List (List ℕ)) (Holds : F → Type 0) (e : Ending) → status ≢ 0 → RefusedFor status words Holds e → e.status ≢ 0
-refused_not_done status words Holds e other r zero = other (sym (status_of_text status (refusal status (words r.0)).text e r.2) ∙ zero)
+-- a refusal has no other status
+pub refused_apart : {F : Type 0} (status other : ℕ) (words : F → List (List ℕ)) (Holds : F → Type 0) (e : Ending) → status ≢ other → RefusedFor status words Holds e → e.status ≢ other
+refused_apart status other words Holds e apart r is = apart (sym (status_of_text status (refusal status (words r.0)).text e r.2) ∙ is)

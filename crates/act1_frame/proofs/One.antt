@@ -1,5 +1,5 @@
 -- The words and files allow one status, where no read failed.
-use Rattle.std.proofs.Common.{ℕ, ◌≡◌, ◌≤◌, ◌<◌, ◌⊎◌, IsTrue, List, length, Option, Some, inl, inr, sym, ap, subst, ◌∙◌, arith}
+use Rattle.std.proofs.Common.{ℕ, ◌≡◌, IsTrue, List, length, Option, Some, inl, inr, sym, ap, subst, ◌∙◌, arith}
 use Rattle.act1_outside.specs.Outside.{Shelf}
 use Rattle.act1_frame.specs.declared.ending.Ending.{Ending}
 use Rattle.act1_frame.specs.Reading.{Wanted, ReadFailed, WasRead, Found, AreBytes}

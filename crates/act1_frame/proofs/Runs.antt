@@ -1,10 +1,10 @@
 -- What follows for a run from how a command may end and what its ending leaves.
-use Rattle.std.proofs.Common.{ℕ, ◌≡◌, ◌≢◌, ◌⊎◌, IsTrue, List, Option, Some, None, inl, inr, refl, sym, ap, subst, ◌∙◌, Contains, arith}
+use Rattle.std.proofs.Common.{ℕ, ◌≡◌, ◌≢◌, ◌⊎◌, IsTrue, List, Option, Some, None, inl, inr, refl, sym, subst, ◌∙◌, Contains, arith}
 use Rattle.act1_outside.specs.Faults.{Rose}
-use Rattle.act1_outside.specs.Outside.{Shelf, Paper, Bench, SameHeld, OthersHeld}
+use Rattle.act1_outside.specs.Outside.{Shelf, Paper, SameHeld}
 use Rattle.act1_frame.specs.declared.ending.Ending.{Ending}
 use Rattle.act1_frame.specs.declared.ending.FileText.{FileText}
-use Rattle.act1_frame.specs.Clauses.{RunEnds, HasReadFault, HasLongFile, HasWriteFault, Answers, CausesAreAnswered, IsComplete, KeepsAllBut, KeepsWhatIsNotWritten}
+use Rattle.act1_frame.specs.Clauses.{HasReadFault, HasLongFile, HasWriteFault, Answers, CausesAreAnswered, IsComplete, KeepsAllBut, KeepsWhatIsNotWritten}
 use Rattle.act1_frame.specs.Leaving.{Says, Leaves, LeavesWith, LeavesFile, LeavesNothing, NowHolds, PrintsAll, WriteFailed, WriteFoundNoMemory, memory_text, write_fault_text}
 use Rattle.act1_frame.specs.Reading.{Wanted, OnlyRead}
 use Rattle.act1_frame.specs.World.{World}
@@ -41,38 +41,52 @@ module _ (before mid after : Shelf) (only : OnlyRead before mid) where
 
 -- ---- each clause
 
--- what is said with another status than 0 leaves another than 0
-not_said : (text : List ℕ) (status : ℕ) (blank : Paper) (result : ℕ) (paper : Paper) → status ≢ 0 → Says text status blank result paper → result ≡ 0 → ⊥
-not_said text status blank result paper other (inl h) zero = other (sym h.0 ∙ zero)
-not_said text status blank result paper other (inr (inl h)) zero = let three = h.0 in absurd (omega arith)
-not_said text status blank result paper other (inr (inr h)) zero = let fifteen = h.0 in absurd (omega arith)
+-- a status at which a text is printed whole: no fault of writing and no want of memory has it
+pub record IsSaid (status : ℕ) : Type 0 where
+  pub three : status ≢ 3
+  pub fifteen : status ≢ 15
 
--- what is said at status 0 is printed whole
-all_said : (text : List ℕ) (status : ℕ) (blank : Paper) (result : ℕ) (paper : Paper) → Says text status blank result paper → result ≡ 0 → PrintsAll text blank paper
-all_said text status blank result paper (inl h) e = h.1
-all_said text status blank result paper (inr (inl h)) e = let three = h.0 in absurd (omega arith)
-all_said text status blank result paper (inr (inr h)) e = let fifteen = h.0 in absurd (omega arith)
+pub said_at : (status : ℕ) → status ≢ 3 → status ≢ 15 → IsSaid status
+said_at status three fifteen = record { three = three; fifteen = fifteen }
 
--- at status 0 the text of an ending without a file is printed
-pub text_printed : (e : Ending) (before : Shelf) (blank : Paper) (result : ℕ) (after : Shelf) (paper : Paper) → e.file ≡ None → Leaves e before blank result after paper → result ≡ 0 → PrintsAll e.text blank paper
-text_printed e before blank result after paper none (inl h) zero =
-    let k = subst (λ (f : Option FileText). LeavesWith f e.text e.status before blank result after paper) none h in
-    all_said e.text e.status blank result paper k.1 zero
-text_printed e before blank result after paper none (inr h) zero = elim (not_said memory_text 15 blank result paper (λ z. absurd (omega (arith, z))) h.1 zero) [ ]
+pub done_said : IsSaid 0
+done_said = record { three = λ z. absurd (omega (arith, z)); fifteen = λ z. absurd (omega (arith, z)) }
 
--- at status 0 the file of an ending is written, and its text printed
+module _ (n : ℕ) (is : IsSaid n) where
+  -- what is said with another status leaves another
+  not_said : (text : List ℕ) (status : ℕ) (blank : Paper) (result : ℕ) (paper : Paper) → status ≢ n → Says text status blank result paper → result ≡ n → ⊥
+  not_said text status blank result paper other (inl h) e = other (sym h.0 ∙ e)
+  not_said text status blank result paper other (inr (inl h)) e = is.three (sym e ∙ h.0)
+  not_said text status blank result paper other (inr (inr h)) e = is.fifteen (sym e ∙ h.0)
+
+  -- what is said at such a status is printed whole
+  all_said : (text : List ℕ) (status : ℕ) (blank : Paper) (result : ℕ) (paper : Paper) → Says text status blank result paper → result ≡ n → PrintsAll text blank paper
+  all_said text status blank result paper (inl h) e = h.1
+  all_said text status blank result paper (inr (inl h)) e = elim (is.three (sym e ∙ h.0)) [ ]
+  all_said text status blank result paper (inr (inr h)) e = elim (is.fifteen (sym e ∙ h.0)) [ ]
+
+  -- at such a status the text of an ending without a file is printed
+  pub text_printed : (e : Ending) (before : Shelf) (blank : Paper) (result : ℕ) (after : Shelf) (paper : Paper) → e.file ≡ None → Leaves e before blank result after paper → result ≡ n → PrintsAll e.text blank paper
+  text_printed e before blank result after paper none (inl h) r =
+      let k = subst (λ (f : Option FileText). LeavesWith f e.text e.status before blank result after paper) none h in
+      all_said e.text e.status blank result paper k.1 r
+  text_printed e before blank result after paper none (inr h) r = elim (not_said memory_text 15 blank result paper (λ z. is.fifteen (sym z)) h.1 r) [ ]
+
+-- the file of an ending is written, and its text printed
 pub record IsWritten (file : FileText) (text : List ℕ) (before : Shelf) (blank : Paper) (after : Shelf) (paper : Paper) : Type 0 where
   pub holds : NowHolds file.name file.bytes before after
   pub printed : PrintsAll text blank paper
 
-pub file_written : (e : Ending) (file : FileText) (before : Shelf) (blank : Paper) (result : ℕ) (after : Shelf) (paper : Paper) → e.file ≡ Some file → Leaves e before blank result after paper → result ≡ 0 → IsWritten file e.text before blank after paper
-file_written e file before blank result after paper is (inl h) zero = by (subst (λ (f : Option FileText). LeavesWith f e.text e.status before blank result after paper) is h)
+-- .. at such a status
+pub file_written : (n : ℕ) → IsSaid n → (e : Ending) (file : FileText) (before : Shelf) (blank : Paper) (result : ℕ) (after : Shelf) (paper : Paper) → e.file ≡ Some file → Leaves e before blank result after paper → result ≡ n
+    → IsWritten file e.text before blank after paper
+file_written n said e file before blank result after paper is (inl h) r = by (subst (λ (f : Option FileText). LeavesWith f e.text e.status before blank result after paper) is h)
   where
     by : LeavesFile file.name file.bytes e.text e.status before blank result after paper → IsWritten file e.text before blank after paper
-    by (others, inl k) = record { holds = k.0; printed = all_said e.text e.status blank result paper k.1 zero }
-    by (others, inr (inl k)) = elim (not_said (write_fault_text file.name) 3 blank result paper (λ z. absurd (omega (arith, z))) k.1 zero) [ ]
-    by (others, inr (inr k)) = elim (not_said memory_text 15 blank result paper (λ z. absurd (omega (arith, z))) k.1 zero) [ ]
-file_written e file before blank result after paper is (inr h) zero = elim (not_said memory_text 15 blank result paper (λ z. absurd (omega (arith, z))) h.1 zero) [ ]
+    by (others, inl k) = record { holds = k.0; printed = all_said n said e.text e.status blank result paper k.1 r }
+    by (others, inr (inl k)) = elim (not_said n said (write_fault_text file.name) 3 blank result paper (λ z. said.three (sym z)) k.1 r) [ ]
+    by (others, inr (inr k)) = elim (not_said n said memory_text 15 blank result paper (λ z. said.fifteen (sym z)) k.1 r) [ ]
+file_written n said e file before blank result after paper is (inr h) r = elim (not_said n said memory_text 15 blank result paper (λ z. said.fifteen (sym z)) h.1 r) [ ]
 
 module _ (writes : List (List ℕ)) (before : World) (result : ℕ) (after : World) where
   said : (text : List ℕ) (status : ℕ) → Says text status before.paper result after.paper → Answers status writes before result after

@@ -1,5 +1,5 @@
 -- The stages of a command follow one another: what was found after some reads is what was there before them.
-use Rattle.std.proofs.Common.{ℕ, ◌≡◌, ◌≤◌, ◌⊎◌, IsTrue, List, inl, inr, sym, subst, ◌∙◌, arith, Result, Ok, Err, IfOk, IfErr}
+use Rattle.std.proofs.Common.{ℕ, ◌≡◌, IsTrue, List, inl, inr, sym, subst, ◌∙◌, arith, Result, Ok, Err, IfOk, IfErr}
 use Rattle.act1_outside.specs.Outside.{Shelf}
 use Rattle.act1_outside.specs.Faults.{Rose}
 use Rattle.act1_frame.specs.declared.ending.Ending.{Ending}

@@ -1,9 +1,10 @@
 -- The texts of jobs are those that the lines of jobs make, and they are read line by line.
 use Rattle.std.proofs.Common.{ℕ, ◌≡◌, ◌≤◌, nat_le, nat_lt, true, ◌&&◌, IsTrue, List, [], ◌∷◌, ◌++◌, map, Result, Ok, Err, refl, sym, ap, subst, ◌∙◌, arith}
 use Rattle.std.specs.List.{list_all, AllByRecursion}
-use Rattle.act1_base.specs.FirstFault.{IsFormatOf}
+use Rattle.act1_base.specs.FirstFault.{IsFirstFaultyLine, IsFormatOf}
 use Rattle.act1_base.specs.Texts.{reading}
 use Rattle.act1_base.specs.declared.texts.TextFault.{TextFault}
+use Rattle.act1_base.proofs.FirstFaults.{first_is_fault}
 use Rattle.act1_table.specs.Formats.{IsFine, IsLinesTo, OwesTexts, text_of}
 use Rattle.act1_table.specs.Forms.{FitFields}
 use Rattle.act1_table.specs.Table.{up_to}
@@ -17,6 +18,7 @@ use Rattle.act1_channel.specs.declared.problem.Connection.{Connection}
 use Rattle.act1_channel.specs.declared.problem.Problem.{Problem}
 use Rattle.act1_job.specs.Jobs.{are_breaks, breaks_rise, is_budget, is_draft}
 use Rattle.act1_job.specs.Lines.{job_table, given_of, job_format, body_lines, draft_lines, draft_text, draft_of}
+use Rattle.act1_job.specs.Laws.{NeverBoth, OneJob}
 use Rattle.act1_job.specs.Reads.{IsTextOf, IsJobText}
 use Rattle.act1_job.specs.Steps.{Fault, job_steps, job_rules}
 use Rattle.std.proofs.Math.Bool.{Bool-set}
@@ -183,3 +185,14 @@ again_read bytes s d job other h is of text =
 -- the text of a job has no faulty line
 pub never_refused : (bytes : List ℕ) (fault : TextFault Fault) (job : Job) → reading job_rules bytes ≡ Err fault → IsTextOf bytes job → ⊥
 never_refused bytes fault job h text = let read = text_read bytes (draft_of job) (said_fits bytes job text) in cc
+
+-- one text is of one job
+pub one_job : OneJob
+one_job bytes one other h k =
+    let same = sym (text_read bytes (draft_of one) (said_fits bytes one h)) ∙ text_read bytes (draft_of other) (said_fits bytes other k) in
+    same_job one other (same_draft (draft_of one) (draft_of other) (ok_is (state.End (draft_of one)) (state.End (draft_of other)) same))
+
+pub never_both : NeverBoth
+never_both bytes job number is faulty =
+    let refused = first_is_fault job_rules IsJobText job_rules_are.reads job_rules_are.completes bytes number faulty in
+    never_refused bytes (record { line = number; kind = refused.0 }) job refused.1 is

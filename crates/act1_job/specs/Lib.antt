@@ -1,4 +1,5 @@
 pub mod Jobs
+pub mod Laws
 pub mod Lines
 pub mod Reads
 pub mod Steps

@@ -4,6 +4,7 @@
 mod draft;
 mod fault;
 mod job;
+mod laws;
 mod line;
 mod read;
 mod rules;
@@ -13,5 +14,6 @@ mod write;
 
 pub use fault::JobFault;
 pub use job::Job;
+pub use laws::job_texts_are_exact;
 pub use read::read_job;
 pub use write::job_text;

@@ -39,8 +39,57 @@ fn ending(bytes: &[u8]) -> &'static str {
     }
 }
 
+// Content of more lines than these is shown by the first words of its lines.
+const MOST_LINES: usize = 1_000;
+
+// Whether content is shown so.
+fn is_long(bytes: &[u8]) -> bool {
+    let mut left = MOST_LINES;
+    for _line in Lines::new(bytes) {
+        if left == 0 {
+            return true;
+        }
+        left -= 1;
+    }
+    false
+}
+
+// The first word of a line.
+fn first_word(line: &[u8]) -> &[u8] {
+    match line.split(|byte| *byte == b' ').next() {
+        Some(word) => word,
+        None => line,
+    }
+}
+
+// Adds, for lines one after the other that begin with the same word, their number and that word.
+fn show_many(out: &mut String, bytes: &[u8]) -> Result<(), AllocError> {
+    let mut word: &[u8] = b"";
+    let mut count = 0u64;
+    for line in Lines::new(bytes) {
+        let next = first_word(line);
+        if count > 0 && next != word {
+            show_count(out, count, word)?;
+            out.push(' ')?;
+            count = 0;
+        }
+        word = next;
+        count = count.saturating_add(1);
+    }
+    show_count(out, count, word)
+}
+
+// Adds a number of lines, and the word with which each of them begins.
+fn show_count(out: &mut String, count: u64, word: &[u8]) -> Result<(), AllocError> {
+    write!(out, "%{count} ")?;
+    show_word(out, word)
+}
+
 // Adds content as one line: a slash parts its lines, and stands for an empty one.
 fn show_text(out: &mut String, bytes: &[u8]) -> Result<(), AllocError> {
+    if is_long(bytes) {
+        return show_many(out, bytes);
+    }
     let mut is_first = true;
     let mut is_inside = false;
     for line in Lines::new(bytes) {
@@ -63,6 +112,10 @@ fn show_text(out: &mut String, bytes: &[u8]) -> Result<(), AllocError> {
 
 // Adds content with each of its lines behind a bar.
 fn show_block(out: &mut String, bytes: &[u8]) -> Result<(), AllocError> {
+    if is_long(bytes) {
+        show_many(out, bytes)?;
+        return out.push('\n');
+    }
     for line in Lines::new(bytes) {
         if line.is_empty() {
             out.push_str("|\n")?;

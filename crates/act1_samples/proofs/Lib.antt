@@ -3,6 +3,7 @@ pub mod ArrayNets
 pub mod Basics
 pub mod Channels
 pub mod Circuits
+pub mod CommandWords
 pub mod Devices
 pub mod Diagrams
 pub mod HeldLatch

@@ -3,6 +3,7 @@ pub mod Commands
 pub mod Constants
 pub mod FlowLaws
 pub mod Places
+pub mod SearchLaws
 pub mod SimLaws
 pub mod TextsRead
 pub mod Usage

@@ -1,11 +1,10 @@
 -- What words that are no command owe.
-use Rattle.std.proofs.Common.{ℕ, ◌≡◌, List, [], Some, refl, sym, subst, ◌∙◌, arith}
+use Rattle.std.proofs.Common.{◌≡◌, refl, sym, subst, ◌∙◌, arith}
 use Rattle.act1_outside.specs.Outside.{Shelf}
 use Rattle.act1_frame.specs.declared.ending.Ending.{Ending}
 use Rattle.act1_frame.proofs.Fine.{IsFine, status_of_text}
 use Rattle.act1_frame.proofs.Runs.{IsLawful}
-use Rattle.act1_top.specs.declared.command.Command.{Command}
-use Rattle.act1_top.specs.declared.command.Command.TheVariants.{Unknown}
+use Rattle.act1_words.specs.declared.command.Command.TheVariants.{Unknown}
 use Rattle.act1_top.specs.Run.{reads_of, writes_of, writes_at, usage_ending, MayEnd}
 
 usage_fine : (before after : Shelf) → IsFine (Unknown ≡ Unknown) (reads_of Unknown) (writes_at Unknown) before after usage_ending

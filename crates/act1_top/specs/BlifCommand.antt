@@ -10,7 +10,7 @@ use Rattle.act1_frame.specs.Leaving.{PrintsAll}
 use Rattle.act1_frame.specs.Reading.{Wanted, Holds}
 use Rattle.act1_frame.specs.Stages.{Reads}
 use Rattle.act1_frame.specs.World.{World}
-use Rattle.act1_top.specs.declared.command.BlifWords.{BlifWords}
+use Rattle.act1_words.specs.declared.command.BlifWords.{BlifWords}
 use Rattle.act1_top.specs.Files.{file_of, NetlistRefused}
 
 -- the file that it reads; it writes none

@@ -1,5 +1,5 @@
 -- The command `flow`.
-use Rattle.std.specs.Prelude.{ℕ, ◌≡◌, ◌≢◌, ◌≤◌, ◌⊎◌, ◌==◌, if◌then◌else◌, List, [], ◌∷◌, ◌++◌, length, codes, Some, Err}
+use Rattle.std.specs.Prelude.{ℕ, ◌≡◌, ◌≢◌, ◌≤◌, ◌<◌, ◌⊎◌, ◌==◌, if◌then◌else◌, List, [], ◌∷◌, ◌++◌, length, codes, Some, Err}
 use Rattle.std.specs.Fmt.{decimal}
 use Rattle.act1_base.specs.Words.{text_line}
 use Rattle.act1_outside.specs.Outside.{Shelf}
@@ -26,7 +26,7 @@ use Rattle.act1_frame.specs.Leaving.{NowHolds, PrintsAll}
 use Rattle.act1_frame.specs.Reading.{Wanted, Holds}
 use Rattle.act1_frame.specs.Stages.{Reads}
 use Rattle.act1_frame.specs.World.{World}
-use Rattle.act1_top.specs.declared.command.FlowWords.{FlowWords}
+use Rattle.act1_words.specs.declared.command.FlowWords.{FlowWords}
 use Rattle.act1_top.specs.Files.{file_of, DeviceRefused, NetlistRefused}
 
 -- the files that it reads and writes, and those that it writes at a status
@@ -56,23 +56,27 @@ routed_ending fuses file modules = record {
 abbrev pub flow_refusal : FlowStop → Ending
 flow_refusal why = refusal 8 (flow_stop_words why)
 
--- a netlist for which the flow isn't built yet
-abbrev pub unbuilt_ending : Ending
-unbuilt_ending = refusal 18 (codes "not built blif" ∷ [])
+-- a form for which the flow isn't built yet: netlists that aren't of constants, and helpers
+abbrev pub unbuilt_ending : List ℕ → Ending
+unbuilt_ending form = refusal 18 (codes "not built" ∷ form ∷ [])
 
 -- what the flow of a netlist for a device ends with: a netlist that isn't one of constants, for which it isn't built yet; a cause that there is no antifuse file; or an antifuse file that realizes the netlist
 abbrev pub FlowEnds : Device → Blif → List ℕ → Ending → Type 0
 FlowEnds dev net fuses e =
-    ((IsConstant net → ⊥) × (e ≡ unbuilt_ending))
+    ((IsConstant net → ⊥) × (e ≡ unbuilt_ending (codes "blif")))
     ⊎ ((IsConstant net × (why : FlowStop) × (why ≢ stop.Memory) × FlowGives dev net (Err why) × (e ≡ flow_refusal why))
     ⊎ (IsConstant net × (pads_needed net ≤ length dev.pads) × (file : FuseFile) × (modules : ℕ) × Realizes dev net file modules × (e ≡ routed_ending fuses file modules)))
 
--- its endings, by the stage that they come from
-abbrev pub FlowMayEnd : FlowWords → Shelf → Shelf → Ending → Type 0
-FlowMayEnd words before after e =
+-- its endings without helpers, by the stage that they come from
+abbrev pub FlowStages : FlowWords → Shelf → Shelf → Ending → Type 0
+FlowStages words before after e =
     Reads DeviceText DeviceRefused before after (file_of words.device) (λ dev.
     Reads BlifText NetlistRefused before after (file_of words.blif) (λ net.
     FlowEnds dev net words.fuses)) e
+
+-- its endings: helpers aren't built yet
+abbrev pub FlowMayEnd : FlowWords → Shelf → Shelf → Ending → Type 0
+FlowMayEnd words before after e = ((0 < words.jobs) × (e ≡ unbuilt_ending (codes "jobs"))) ⊎ ((words.jobs ≡ 0) × FlowStages words before after e)
 
 -- The headline. The bytes under DEVICE are a device's text, and those under BLIF a netlist's. FUSES now holds the one text of an antifuse file that keeps the rules for that device. The array is sound: it drives no wire twice and leaves no pin and no output open. The circuit that device and antifuse file alone describe means the netlist: for every list of input vectors, every start state that agrees with the declared latch values and every order in which its modules fire, it shows the netlist's outputs in each clock cycle and comes to rest after each wave. It has no more modules than the netlist needs at most, and what is printed are the numbers of its modules and antifuses.
 pub record FlowIsDone (words : FlowWords) (before after : World) : Type 0 where

@@ -1,10 +1,13 @@
--- The laws of what commands read.
+-- The laws of what commands read and find.
 use Rattle.act1_devread.specs.Laws as device
 use Rattle.act1_blifread.specs.Laws as netlist
 use Rattle.act1_fuses.specs.Laws as fuses
 use Rattle.act1_sim.specs.Laws as sim
+use Rattle.act1_job.specs.Laws as job
+use Rattle.act1_channel.specs.Laws as channel
+use Rattle.act1_search.specs.Exact as search
 
--- no text is both accepted and refused, and each is of one device, netlist or antifuse file; an array has one answer to a text of vectors
+-- no text is both accepted and refused, and each is of one device, netlist, antifuse file or job; an array has one answer to a text of vectors, and the search for a job one end
 pub record TextsAreOne : Type 0 where
   pub device_never : device.NeverBoth
   pub one_device : device.OneDevice
@@ -14,3 +17,8 @@ pub record TextsAreOne : Type 0 where
   pub one_file : fuses.OneFile
   pub sim_never : sim.NeverBoth
   pub one_refusal : sim.OneRefusal
+  pub job_never : job.NeverBoth
+  pub one_job : job.OneJob
+  pub logs_refute : channel.AcceptedLogsRefute
+  pub spent : search.SpendingIsExact
+  pub fit : search.AssignmentsFit

@@ -3,5 +3,5 @@ pub mod Files
 pub mod FlowCommand
 pub mod Laws
 pub mod Run
+pub mod SearchCommand
 pub mod SimCommand
-pub mod Words

@@ -1,5 +1,5 @@
 -- The command `sim`.
-use Rattle.std.specs.Prelude.{ℕ, ◌≡◌, ◌≢◌, ◌⊎◌, false, List, [], ◌∷◌}
+use Rattle.std.specs.Prelude.{ℕ, ◌≡◌, ◌≢◌, ◌⊎◌, Bool, List, [], ◌∷◌}
 use Rattle.act1_outside.specs.Outside.{Shelf}
 use Rattle.act1_device.specs.declared.device.Device.{Device}
 use Rattle.act1_devread.specs.Text.{DeviceText}
@@ -17,7 +17,7 @@ use Rattle.act1_frame.specs.Leaving.{PrintsAll}
 use Rattle.act1_frame.specs.Reading.{Wanted, Holds, AreBytes}
 use Rattle.act1_frame.specs.Stages.{Reads, NeverRefused}
 use Rattle.act1_frame.specs.World.{World}
-use Rattle.act1_top.specs.declared.command.SimWords.{SimWords}
+use Rattle.act1_words.specs.declared.command.SimWords.{SimWords}
 use Rattle.act1_top.specs.Files.{file_of, DeviceRefused, FusesRefused}
 
 -- the files that it reads; it writes none
@@ -34,11 +34,11 @@ sim_status fault.Memory = 15
 abbrev pub sim_refusal : SimFault → Ending
 sim_refusal why = refusal (sim_status why) (sim_fault_words why)
 
--- what the simulation of an array over a text of vectors ends with, where modules without a declared start begin with 0
-abbrev pub SimEnds : Device → FuseFile → List ℕ → Ending → Type 0
-SimEnds dev file vectors e =
-    ((text : List ℕ) × Simulates dev file vectors false text × (e ≡ printed text))
-    ⊎ ((why : SimFault) × (why ≢ fault.Memory) × RefusesToSimulate dev file vectors false why × (e ≡ sim_refusal why))
+-- what the simulation of an array over a text of vectors ends with, where modules without a declared start begin with the fill
+abbrev pub SimEnds : Bool → Device → FuseFile → List ℕ → Ending → Type 0
+SimEnds fill dev file vectors e =
+    ((text : List ℕ) × Simulates dev file vectors fill text × (e ≡ printed text))
+    ⊎ ((why : SimFault) × (why ≢ fault.Memory) × RefusesToSimulate dev file vectors fill why × (e ≡ sim_refusal why))
 
 -- its endings, by the stage that they come from
 abbrev pub SimMayEnd : SimWords → Shelf → Shelf → Ending → Type 0
@@ -46,9 +46,9 @@ SimMayEnd words before after e =
     Reads DeviceText DeviceRefused before after (file_of words.device) (λ dev.
     Reads (IsTextOf dev) (FusesRefused dev) before after (file_of words.fuses) (λ file.
     Reads AreBytes NeverRefused before after (file_of words.vectors) (λ bytes.
-    SimEnds dev file bytes))) e
+    SimEnds words.fill dev file bytes))) e
 
--- A simulation that is done. The bytes under DEVICE are a device's text, and those under FUSES the one text of an antifuse file that keeps the rules for that device. What is printed are the outputs, a line a cycle, of the circuit that device and antifuse file alone describe, over the vectors that VECTORS holds, where its modules fire in site order and begin with their declared starts and else with 0; and the circuit comes to rest after each wave.
+-- A simulation that is done. The bytes under DEVICE are a device's text, and those under FUSES the one text of an antifuse file that keeps the rules for that device. What is printed are the outputs, a line a cycle, of the circuit that device and antifuse file alone describe, over the vectors that VECTORS holds, where its modules fire in site order and begin with their declared starts and else with the fill that the words give; and the circuit comes to rest after each wave.
 pub record SimIsDone (words : SimWords) (before after : World) : Type 0 where
   pub device_bytes : List ℕ
   pub fuses_bytes : List ℕ
@@ -62,5 +62,5 @@ pub record SimIsDone (words : SimWords) (before after : World) : Type 0 where
   pub fuses_text : fuses_bytes ≡ fuse_text file
   pub keeps : KeepsRules dev file
   pub vectors_held : Holds before.shelf words.vectors vectors_bytes
-  pub simulates : Simulates dev file vectors_bytes false text
+  pub simulates : Simulates dev file vectors_bytes words.fill text
   pub printed : PrintsAll text before.paper after.paper

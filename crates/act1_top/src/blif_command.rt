@@ -3,11 +3,11 @@ ghost use Rattle.act1_frame.specs.Reading.{OnlyRead};
 ghost use Rattle.act1_frame.specs.Stages.{OnStop};
 ghost use Rattle.act1_top.specs.BlifCommand.{BlifEnds, BlifMayEnd};
 
-use crate::command::BlifWords;
 use crate::found::netlist_under;
 use act1_blif::{Blif, blif_text};
 use act1_frame::{Ending, Stop, with_text};
 use act1_outside::Files;
+use act1_words::BlifWords;
 use std::alloc::Global;
 
 // The canonical text of a netlist.

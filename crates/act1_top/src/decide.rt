@@ -3,16 +3,16 @@ ghost use Rattle.std.specs.String.{string_bytes};
 ghost use Rattle.act1_frame.specs.Reading.{OnlyRead};
 ghost use Rattle.act1_frame.specs.Stages.{OnStop};
 ghost use Rattle.act1_top.specs.Run.{MayEnd, usage_ending};
-ghost use Rattle.act1_top.specs.Words.{command_of};
+ghost use Rattle.act1_words.specs.Commands.{command_of};
 
 use crate::blif_command::blif_ending;
-use crate::command::Command;
 use crate::flow_command::flow_ending;
+use crate::search_command::search_ending;
 use crate::sim_command::sim_ending;
-use crate::words::command_of;
 use act1_base::{Memory, write_word};
 use act1_frame::{Ending, Stop, with_text};
 use act1_outside::Files;
+use act1_words::{Command, command_of};
 use std::alloc::Global;
 
 // The ending of words that are no command.
@@ -37,6 +37,7 @@ fn ending_of<F: Files>(alloc: Global, files: &mut F, command: &Command) -> Resul
         Command::Unknown => Ok(usage_ending(alloc)?),
         Command::Flow(words) => flow_ending(alloc, files, words),
         Command::Sim(words) => sim_ending(alloc, files, words),
+        Command::Search(words) => search_ending(alloc, files, words),
         Command::Blif(words) => blif_ending(alloc, files, words),
     }
 }

@@ -5,17 +5,17 @@ ghost use Rattle.act1_blif.specs.declared.blif.Node.{Node};
 ghost use Rattle.act1_flow.specs.Constant.{IsConstant};
 ghost use Rattle.act1_frame.specs.Reading.{OnlyRead};
 ghost use Rattle.act1_frame.specs.Stages.{OnStop};
-ghost use Rattle.act1_top.specs.FlowCommand.{FlowEnds, FlowMayEnd, done_text, routed_ending, flow_refusal, unbuilt_ending};
+ghost use Rattle.act1_top.specs.FlowCommand.{FlowEnds, FlowStages, FlowMayEnd, done_text, routed_ending, flow_refusal, unbuilt_ending};
 
-use crate::command::FlowWords;
 use crate::found::{device_under, netlist_under};
-use act1_base::{Items, Memory, add_number, add_word, write_word};
+use act1_base::{Items, Memory, add_number, add_word, write_named, write_word};
 use act1_blif::{Blif, Node};
 use act1_device::Device;
 use act1_flow::{FlowStop, Routed, flow, write_flow_stop};
 use act1_frame::{Ending, FileText, Stop, Word, with_text};
 use act1_fuses::write_fuses;
 use act1_outside::Files;
+use act1_words::FlowWords;
 use std::alloc::Global;
 
 // Whether each node is a constant.
@@ -100,12 +100,12 @@ fn stopped_ending(alloc: Global, stop: FlowStop) -> Result<Ending, Memory>
     Ok(with_text(8, text))
 }
 
-// The ending of a netlist for which the flow isn't built yet.
-fn unbuilt_ending(alloc: Global) -> Result<Ending, Memory>
-    ensures { IfOk result (λ ending. ending ≡ unbuilt_ending) }
+// The ending of a form for which the flow isn't built yet.
+fn unbuilt_ending(alloc: Global, form: &[u8]) -> Result<Ending, Memory>
+    ensures { IfOk result (λ ending. ending ≡ unbuilt_ending form.now) }
 {
     let mut text = Vec::new(alloc);
-    write_word(&mut text, b"not built blif")?;
+    write_named(&mut text, b"not built", form)?;
     Ok(with_text(18, text))
 }
 
@@ -115,7 +115,7 @@ fn flow_ends(alloc: Global, device: &Device, net: &Blif, fuses: &Word) -> Result
     ensures err { IfErr result (OnStop (FlowEnds device.now net.now fuses.now)) }
 {
     if !is_constant(net) {
-        return Ok(unbuilt_ending(alloc)?);
+        return Ok(unbuilt_ending(alloc, b"blif")?);
     }
     match flow(alloc, device, net) {
         Ok(routed) => Ok(routed_ending(alloc, &routed, fuses)?),
@@ -126,7 +126,18 @@ fn flow_ends(alloc: Global, device: &Device, net: &Blif, fuses: &Word) -> Result
     }
 }
 
-/// The stages of `flow` in their order.
+// The stages of `flow` without helpers, in their order.
+fn flow_stages<F: Files>(alloc: Global, files: &mut F, words: &FlowWords) -> Result<Ending, Stop>
+    ensures ok { IfOk result (FlowStages words.now (F.seen files.old) (F.seen files.new)) }
+    ensures err { IfErr result (OnStop (FlowStages words.now (F.seen files.old) (F.seen files.new))) }
+    ensures files { OnlyRead (F.seen files.old) (F.seen files.new) }
+{
+    let device = device_under(alloc, files, &words.device)?;
+    let net = netlist_under(alloc, files, &words.blif)?;
+    flow_ends(alloc, &device, &net, &words.fuses)
+}
+
+/// The stages of `flow` in their order. Helpers aren't built yet.
 pub fn flow_ending<F: Files>(
     alloc: Global,
     files: &mut F,
@@ -136,7 +147,8 @@ pub fn flow_ending<F: Files>(
     ensures err { IfErr result (OnStop (FlowMayEnd words.now (F.seen files.old) (F.seen files.new))) }
     ensures files { OnlyRead (F.seen files.old) (F.seen files.new) }
 {
-    let device = device_under(alloc, files, &words.device)?;
-    let net = netlist_under(alloc, files, &words.blif)?;
-    flow_ends(alloc, &device, &net, &words.fuses)
+    if words.jobs > 0 {
+        return Ok(unbuilt_ending(alloc, b"jobs")?);
+    }
+    flow_stages(alloc, files, words)
 }

@@ -1,11 +1,13 @@
 ghost use Rattle.std.specs.Prelude.{◌≡◌, ◌≤◌, length, IfOk, IfErr};
+ghost use Rattle.act1_base.specs.Words.{text_line};
 ghost use Rattle.act1_devread.specs.Text.{DeviceText};
 ghost use Rattle.act1_blifread.specs.Text.{BlifText};
 ghost use Rattle.act1_fuses.specs.Reads.{IsTextOf};
 ghost use Rattle.act1_frame.specs.Reading.{Found, AreBytes, OnlyRead};
 ghost use Rattle.act1_frame.specs.Stages.{FileStops, NeverRefused, OnStop};
-ghost use Rattle.act1_top.specs.Files.{most_bytes, file_of, DeviceRefused, NetlistRefused, FusesRefused};
+ghost use Rattle.act1_top.specs.Files.{most_bytes, file_of, DeviceRefused, NetlistRefused, FusesRefused, JobText, JobRefused, job_fault_words};
 
+use act1_base::{Memory, add_number};
 use act1_blif::Blif;
 use act1_blifread::{BlifKind, read_blif};
 use act1_bliftext::write_blif_fault;
@@ -13,6 +15,7 @@ use act1_device::Device;
 use act1_devread::{DeviceKind, read_device, write_device_fault};
 use act1_frame::{Stop, Word, read, with_text};
 use act1_fuses::{FuseFile, FuseKind, read_fuses, write_fuse_fault};
+use act1_job::{Job, JobFault, read_job};
 use act1_outside::Files;
 use std::alloc::Global;
 
@@ -75,6 +78,30 @@ fn fuses_of(alloc: Global, device: &Device, bytes: &[u8]) -> Result<FuseFile, St
     }
 }
 
+// What is printed of a job with a faulty line.
+fn job_fault_text(alloc: Global, line: u32) -> Result<Vec<u8>, Memory>
+    ensures { IfOk result (λ text. text.items ≡ text_line (job_fault_words «line»)) }
+{
+    let mut text = Vec::new(alloc);
+    text.extend_from_slice(b"job line")?;
+    add_number(&mut text, u64::from(line))?;
+    text.push(b'\n')?;
+    Ok(text)
+}
+
+// The job that the bytes spell.
+fn job_of(alloc: Global, bytes: &[u8]) -> Result<Job, Stop>
+    requires { length bytes.now ≤ 4000000000 }
+    ensures ok { IfOk result (JobText bytes.now) }
+    ensures err { IfErr result (OnStop (JobRefused bytes.now)) }
+{
+    match read_job(alloc, bytes) {
+        Ok(job) => Ok(job),
+        Err(JobFault::Line(line)) => Err(Stop::Ends(with_text(17, job_fault_text(alloc, line)?))),
+        Err(JobFault::Memory) => Err(Stop::Memory),
+    }
+}
+
 /// The device under a name.
 pub fn device_under<F: Files>(alloc: Global, files: &mut F, name: &Word) -> Result<Device, Stop>
     ensures ok { IfOk result (Found DeviceText (F.seen files.old) (file_of name.now)) }
@@ -112,6 +139,18 @@ pub fn fuses_under<F: Files>(
 {
     match read(alloc, files, name, MOST_BYTES) {
         Ok(bytes) => fuses_of(alloc, device, &bytes),
+        Err(stop) => Err(stop),
+    }
+}
+
+/// The job under a name.
+pub fn job_under<F: Files>(alloc: Global, files: &mut F, name: &Word) -> Result<Job, Stop>
+    ensures ok { IfOk result (Found JobText (F.seen files.old) (file_of name.now)) }
+    ensures err { IfErr result (OnStop (FileStops JobRefused (F.seen files.old) (F.seen files.new) (file_of name.now))) }
+    ensures files { OnlyRead (F.seen files.old) (F.seen files.new) }
+{
+    match read(alloc, files, name, MOST_BYTES) {
+        Ok(bytes) => job_of(alloc, &bytes),
         Err(stop) => Err(stop),
     }
 }

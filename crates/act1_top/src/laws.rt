@@ -1,12 +1,16 @@
 ghost use Rattle.act1_top.specs.Laws.{TextsAreOne};
 
 use act1_blifread::blif_texts_are_exact;
+use act1_channel::accepted_logs_refute;
 use act1_devread::texts_are_exact;
 use act1_fuses::fuse_texts_are_exact;
+use act1_job::job_texts_are_exact;
+use act1_search::answers_are_exact;
 use act1_sim::one_answer;
 
-/// The law of what commands read: no text is both accepted and refused, each is of one device, netlist
-/// or antifuse file, and an array has one answer to a text of vectors.
+/// The law of what commands read and find: no text is both accepted and refused, each is of one device,
+/// netlist, antifuse file or job; an array has one answer to a text of vectors, and the search for a job one
+/// end.
 pub fn texts_are_one()
     ensures { TextsAreOne }
 {
@@ -14,4 +18,7 @@ pub fn texts_are_one()
     blif_texts_are_exact();
     fuse_texts_are_exact();
     one_answer();
+    job_texts_are_exact();
+    accepted_logs_refute();
+    answers_are_exact();
 }

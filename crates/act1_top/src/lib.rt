@@ -2,16 +2,12 @@
 #![tactic(auto)]
 
 mod blif_command;
-mod command;
 mod decide;
 mod flow_command;
 mod found;
 mod laws;
 mod program;
+mod search_command;
 mod sim_command;
-mod words;
 
-pub use act1_frame::Word;
-pub use command::{BlifWords, Command, FlowWords, SimWords};
 pub use program::run;
-pub use words::command_of;

@@ -2,9 +2,9 @@ ghost use Rattle.std.specs.Prelude.{◌≡◌, map};
 ghost use Rattle.std.specs.String.{string_bytes};
 ghost use Rattle.act1_frame.specs.Clauses.{RunEnds, HasReadFault, HasWriteFault, HasLongFile, Answers, CausesAreAnswered, IsComplete, KeepsAllBut, KeepsWhatIsNotWritten};
 ghost use Rattle.act1_frame.specs.World.{world_of};
-ghost use Rattle.act1_top.specs.Words.{command_of};
-ghost use Rattle.act1_top.specs.declared.command.Command.TheVariants.{Unknown};
-ghost use Rattle.act1_top.specs.Run.{IsDone, MayEnd, reads_of, writes_of, writes_at};
+ghost use Rattle.act1_words.specs.Commands.{command_of};
+ghost use Rattle.act1_words.specs.declared.command.Command.TheVariants.{Unknown};
+ghost use Rattle.act1_top.specs.Run.{IsDone, IsRefuted, IsSpent, MayEnd, reads_of, writes_of, writes_at};
 
 use crate::decide::decide;
 use crate::laws::texts_are_one;
@@ -23,8 +23,11 @@ pub fn run<F: Files, S: Sink, H: Helpers>(
     out: &mut S,
     helpers: &mut H,
 ) -> u8
-    // Status 0 of `flow` is the headline; status 0 of `sim` and `blif` is what is printed.
+    // Status 0 of `flow` is the headline; status 0 of `sim` and `blif` is what is printed. Status 0 of `search` is an
+    // assignment, 10 a refutation and 11 a budget that is spent.
     ensures done { result ≡ 0 → IsDone (command_of (map string_bytes words.now)) (world_of (F.seen files.old) (S.seen out.old) (H.seen helpers.old)) (world_of (F.seen files.new) (S.seen out.new) (H.seen helpers.new)) }
+    ensures refuted { result ≡ 10 → IsRefuted (command_of (map string_bytes words.now)) (world_of (F.seen files.old) (S.seen out.old) (H.seen helpers.old)) (world_of (F.seen files.new) (S.seen out.new) (H.seen helpers.new)) }
+    ensures spent { result ≡ 11 → IsSpent (command_of (map string_bytes words.now)) (world_of (F.seen files.old) (S.seen out.old) (H.seen helpers.old)) (world_of (F.seen files.new) (S.seen out.new) (H.seen helpers.new)) }
 
     // What is printed and written is that of an ending that the words and files allow.
     ensures ends { RunEnds (MayEnd (command_of (map string_bytes words.now))) (world_of (F.seen files.old) (S.seen out.old) (H.seen helpers.old)) result (world_of (F.seen files.new) (S.seen out.new) (H.seen helpers.new)) }

@@ -4,7 +4,6 @@ ghost use Rattle.act1_frame.specs.Reading.{OnlyRead};
 ghost use Rattle.act1_frame.specs.Stages.{OnStop};
 ghost use Rattle.act1_top.specs.SimCommand.{SimEnds, SimMayEnd, sim_status, sim_refusal};
 
-use crate::command::SimWords;
 use crate::found::{bytes_under, device_under, fuses_under};
 use act1_base::Memory;
 use act1_device::Device;
@@ -12,6 +11,7 @@ use act1_frame::{Ending, Stop, with_text};
 use act1_fuses::FuseFile;
 use act1_outside::Files;
 use act1_sim::{SimFault, simulate, write_sim_fault};
+use act1_words::SimWords;
 use std::alloc::Global;
 
 // The status of a refusal to simulate.
@@ -35,14 +35,20 @@ fn refused_ending(alloc: Global, fault: SimFault) -> Result<Ending, Memory>
     Ok(with_text(sim_status(fault), text))
 }
 
-// The array over the vectors, where a module without a declared start begins with 0.
-fn sim_ends(alloc: Global, device: &Device, file: &FuseFile, vectors: &[u8]) -> Result<Ending, Stop>
+// The array over the vectors, where a module without a declared start begins with the fill.
+fn sim_ends(
+    alloc: Global,
+    device: &Device,
+    file: &FuseFile,
+    vectors: &[u8],
+    fill: bool,
+) -> Result<Ending, Stop>
     requires keeps { KeepsRules device.now file.now }
     requires few { length vectors.now ≤ 4000000000 }
-    ensures ok { IfOk result (SimEnds device.now file.now vectors.now) }
-    ensures err { IfErr result (OnStop (SimEnds device.now file.now vectors.now)) }
+    ensures ok { IfOk result (SimEnds fill device.now file.now vectors.now) }
+    ensures err { IfErr result (OnStop (SimEnds fill device.now file.now vectors.now)) }
 {
-    match simulate(alloc, device, file, vectors, false) {
+    match simulate(alloc, device, file, vectors, fill) {
         Ok(text) => Ok(with_text(0, text)),
         Err(SimFault::Memory) => Err(Stop::Memory),
         Err(fault) => Ok(refused_ending(alloc, fault)?),
@@ -58,5 +64,5 @@ pub fn sim_ending<F: Files>(alloc: Global, files: &mut F, words: &SimWords) -> R
     let device = device_under(alloc, files, &words.device)?;
     let file = fuses_under(alloc, files, &device, &words.fuses)?;
     let bytes = bytes_under(alloc, files, &words.vectors)?;
-    sim_ends(alloc, &device, &file, &bytes)
+    sim_ends(alloc, &device, &file, &bytes, words.fill)
 }

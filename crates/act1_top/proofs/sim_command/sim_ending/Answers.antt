@@ -1,4 +1,4 @@
-use Rattle.std.proofs.Common.{inl, inr, List, ℕ, subst, sym}
+use Rattle.std.proofs.Common.{inl, inr, List, ℕ, subst}
 use Rattle.std.proofs.lemmas.Result.{err_from_is_err_and}
 use Rattle.act1_fuses.specs.Reads.{IsTextOf}
 use Rattle.act1_frame.specs.Reading.{AreBytes}
@@ -47,14 +47,14 @@ returns-clause-ok g c =
     let second = g.F.Files.seen c.fuses_under.new.files in
     let after = g.F.Files.seen c.bytes_under.new.files in
     let both = only_on before first second c.device_under.ensures.files c.fuses_under.ensures.files in
-    on_ok (SimEnds c.in_ok-device.device c.in_ok-file.file c.deref.result.now) (SimMayEnd c.args.words.now before after)
+    on_ok (SimEnds c.args.words.now.fill c.in_ok-device.device c.in_ok-file.file c.deref.result.now) (SimMayEnd c.args.words.now before after)
     (λ e h. inr (
       c.in_ok-device.device,
       c.in_ok-device.ensures.ok,
       inr (
         c.in_ok-file.file,
         found_before before first after c.device_under.ensures.files (file_of c.args.words.now.fuses) (IsTextOf c.in_ok-device.device) c.in_ok-file.file c.in_ok-file.ensures.ok,
-        inr (c.in_ok-bytes.bytes.items, found_before before second after both (file_of c.args.words.now.vectors) AreBytes c.in_ok-bytes.bytes.items c.in_ok-bytes.ensures.ok, subst (λ (b : List ℕ). SimEnds c.in_ok-device.device c.in_ok-file.file b e) c.deref.ensures.value h),
+        inr (c.in_ok-bytes.bytes.items, found_before before second after both (file_of c.args.words.now.vectors) AreBytes c.in_ok-bytes.bytes.items c.in_ok-bytes.ensures.ok, subst (λ (b : List ℕ). SimEnds c.args.words.now.fill c.in_ok-device.device c.in_ok-file.file b e) c.deref.ensures.value h),
       ),
     ))
     c.sim_ends.result c.sim_ends.ensures.ok
@@ -66,14 +66,14 @@ returns-clause-err g c =
     let second = g.F.Files.seen c.fuses_under.new.files in
     let after = g.F.Files.seen c.bytes_under.new.files in
     let both = only_on before first second c.device_under.ensures.files c.fuses_under.ensures.files in
-    on_err (SimEnds c.in_ok-device.device c.in_ok-file.file c.deref.result.now) (SimMayEnd c.args.words.now before after)
+    on_err (SimEnds c.args.words.now.fill c.in_ok-device.device c.in_ok-file.file c.deref.result.now) (SimMayEnd c.args.words.now before after)
     (λ e h. inr (
       c.in_ok-device.device,
       c.in_ok-device.ensures.ok,
       inr (
         c.in_ok-file.file,
         found_before before first after c.device_under.ensures.files (file_of c.args.words.now.fuses) (IsTextOf c.in_ok-device.device) c.in_ok-file.file c.in_ok-file.ensures.ok,
-        inr (c.in_ok-bytes.bytes.items, found_before before second after both (file_of c.args.words.now.vectors) AreBytes c.in_ok-bytes.bytes.items c.in_ok-bytes.ensures.ok, subst (λ (b : List ℕ). SimEnds c.in_ok-device.device c.in_ok-file.file b e) c.deref.ensures.value h),
+        inr (c.in_ok-bytes.bytes.items, found_before before second after both (file_of c.args.words.now.vectors) AreBytes c.in_ok-bytes.bytes.items c.in_ok-bytes.ensures.ok, subst (λ (b : List ℕ). SimEnds c.args.words.now.fill c.in_ok-device.device c.in_ok-file.file b e) c.deref.ensures.value h),
       ),
     ))
     c.sim_ends.result c.sim_ends.ensures.err

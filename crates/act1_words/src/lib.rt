@@ -1,0 +1,14 @@
+//! The words of the command line: which command they ask for, with its files and options.
+#![tactic(auto)]
+
+mod arguments;
+mod blif_words;
+mod command;
+mod flow_words;
+mod search_words;
+mod sim_words;
+mod words;
+
+pub use act1_frame::Word;
+pub use command::{BlifWords, Command, FlowWords, SearchWords, SimWords};
+pub use words::command_of;
