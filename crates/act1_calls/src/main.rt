@@ -33,6 +33,8 @@
 //! | `copied LOG` | whether the log of such a file is written as it is read |
 //! | `search JOB N` | how the search of a job's problem ends under the budget N: tracks and whether they fit; or the number of steps, up to twenty of them, and whether the log is accepted; or that it is spent |
 //! | `watch JOB WORD ..` | what a watch of a job's problem knows at first, and after each choice `C@T` that is assumed and each `learn`: the number of choices, and `conflict` or the choices that are taken and, behind a bar, those that are refused |
+//! | `plan TEXT` | the plan as it is written, or the line that is refused |
+//! | `legal DEVICE TEXT` | whether a plan is legal for the device |
 //! | `written DEVICE FUSES` | the antifuse file as it is written |
 //! | `filled B DEVICE FUSES VECTORS` | the outputs where each module without a start of 0 or 1 begins with B |
 //! | `form DEVICE FUSES` | the latch pairs of the circuit, master and slave, and its other modules; or the first fault |
@@ -49,6 +51,7 @@ mod jobs;
 mod logs;
 mod netlists;
 mod nets;
+mod plans;
 mod searches;
 mod tables;
 mod watches;
@@ -98,6 +101,8 @@ fn add_given<R: Files>(rt: &R, alloc: Global, words: &[&str], text: &mut String)
         "copied" => logs::copied_row(rt, alloc, words, text),
         "search" => searches::search_row(rt, alloc, words, text),
         "watch" => watches::watch_row(rt, alloc, words, text),
+        "plan" => plans::plan_row(alloc, words, text),
+        "legal" => plans::legal_row(rt, alloc, words, text),
         "written" => arrays::written_row(rt, alloc, words, text),
         "filled" => arrays::filled_row(rt, alloc, words, text),
         "form" => circuits::form_row(rt, alloc, words, text),

@@ -12,7 +12,8 @@ use Rattle.act1_base.proofs.ListGets.{one_at, get_within, place_of}
 use Rattle.act1_dd.proofs.Canonical.{fork_depends, same_refs}
 use Rattle.act1_base.proofs.Pigeonhole.{NotIn, Distinct, Below, pigeonhole}
 use Rattle.act1_dd.proofs.Descents.{fork_among}
-use Rattle.act1_dd.proofs.Walks.{IsListed, IsReached, IsWalk}
+use Rattle.act1_dd.specs.Steps.{IsListed}
+use Rattle.act1_dd.proofs.Walks.{IsReached, IsWalk}
 
 node_is : (j k : ℕ) → Node j ≡ Node k → j ≡ k
 node_is j k e = cc
@@ -115,7 +116,7 @@ module _ (forks : List Branch) (h : IsReduced forks) (f : Ref) (found : List ℕ
 
   -- a walk that has looked at all listed forks
   pub walk_is_all : (next limit : ℕ) → IsWalk forks f found next → IsRef forks f → length found ≤ next → length found ≤ limit → HasMoreForks (value_at forks f) limit → ⊥
-  walk_is_all next limit w ref ended few = at_most closed ref w.begun limit few
+  walk_is_all next limit w ref ended few = at_most closed ref w.shows.begun limit few
     where
       closed : (k : ℕ) (b : Branch) → Contains found k → slice_get forks k ≡ Some b → IsListed found b.low × IsListed found b.high
-      closed k b listed at = let p = place_of found k listed in let low = get_within found p.0 k p.1 in w.shown p.0 k b (omega arith) p.1 at
+      closed k b listed at = let p = place_of found k listed in let low = get_within found p.0 k p.1 in w.shows.shown p.0 k b (omega arith) p.1 at

@@ -7,5 +7,6 @@ pub mod Memo
 pub mod Parts
 pub mod Restrictions
 pub mod Rows
+pub mod Seen
 pub mod Values
 pub mod Walks

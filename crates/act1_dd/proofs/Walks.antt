@@ -3,14 +3,14 @@ use Rattle.std.proofs.Common.{ℕ, suc, zero, ◌≡◌, ◌≢◌, ◌<◌, ◌
 use Rattle.std.proofs.lemmas.Bool.{cases_lt, false≢true}
 use Rattle.std.proofs.lemmas.Bool.Decides.{nat_tests}
 use Rattle.std.proofs.lemmas.List.{length_push}
-use Rattle.std.specs.Prelude.{◌||◌, slice_get, Some, Contains}
+use Rattle.std.specs.Prelude.{◌||◌, slice_get, Some, None, Contains}
 use Rattle.std.specs.List.{list_any}
 use Rattle.act1_dd.specs.declared.refs.Ref.{Ref}
 use Rattle.act1_dd.specs.declared.refs.Ref.TheVariants.{Zero, One, Node}
 use Rattle.act1_dd.specs.declared.refs.Branch.{Branch}
 use Rattle.act1_dd.specs.Inputs.{Inputs, with_input, fixed_below}
 use Rattle.act1_dd.specs.Diagram.{value_at, IsRef, IsFrom, IsReduced}
-use Rattle.act1_dd.specs.Steps.{with_found, IsPart}
+use Rattle.act1_dd.specs.Steps.{with_found, IsListed, IsPart}
 use Rattle.act1_base.proofs.ListGets.{one_at, get_in, get_within, get_more, get_last, get_cases, contains_at, place_of}
 use Rattle.act1_dd.proofs.Values.{two_values, same_inputs}
 use Rattle.act1_dd.proofs.Canonical.{with_same, with_other, agree_from, from_own, low_part, high_part}
@@ -21,12 +21,6 @@ fixed_low v fixed x k low = grind (arith, nat_tests)
 pub fixed_high : (v : ℕ) (fixed x : Inputs) (k : ℕ) → v ≤ k → fixed_below v fixed x k ≡ x k
 fixed_high v fixed x k high = grind (arith, nat_tests)
 
--- a constant, or one of the listed forks
-abbrev pub IsListed : List ℕ → Ref → Type 0
-IsListed found Zero = Unit {0}
-IsListed found One = Unit {0}
-IsListed found (Node k) = Contains found k
-
 -- the fork comes from f by fixing the variables below its own
 pub record IsReached (forks : List Branch) (f : Ref) (k : ℕ) : Type 0 where
   pub branch : Branch
@@ -34,13 +28,25 @@ pub record IsReached (forks : List Branch) (f : Ref) (k : ℕ) : Type 0 where
   pub fixed : Inputs
   pub comes : (x : Inputs) → value_at forks (Node k) x ≡ value_at forks f (fixed_below branch.var fixed x)
 
--- so many of the listed forks have been looked at
-pub record IsWalk (forks : List Branch) (f : Ref) (found : List ℕ) (next : ℕ) : Type 0 where
+-- a list has nothing at a place past its end
+pub past : (found : List ℕ) (next : ℕ) → None ≡ slice_get found next → length found ≤ next
+past found next none = by (cases_lt next (length found))
+  where
+    by : (next < length found) ⊎ (length found ≤ next) → length found ≤ next
+    by (inl low) = let at = get_in found next low in let e : None ≡ Some at.0 = none ∙ at.1 in cc
+    by (inr more) = more
+
+-- f is listed, and so many of the listed forks have been looked at
+pub record IsShown (forks : List Branch) (f : Ref) (found : List ℕ) (next : ℕ) : Type 0 where
   pub begun : IsListed found f
   pub few : next ≤ length found
+  pub shown : (i k : ℕ) (b : Branch) → i < next → slice_get found i ≡ Some k → slice_get forks k ≡ Some b → IsListed found b.low × IsListed found b.high
+
+-- and each of them comes from f, and stands there once
+pub record IsWalk (forks : List Branch) (f : Ref) (found : List ℕ) (next : ℕ) : Type 0 where
+  pub shows : IsShown forks f found next
   pub reached : (i k : ℕ) → slice_get found i ≡ Some k → IsReached forks f k
   pub once : (i j k : ℕ) → slice_get found i ≡ Some k → slice_get found j ≡ Some k → i ≡ j
-  pub shown : (i k : ℕ) (b : Branch) → i < next → slice_get found i ≡ Some k → slice_get forks k ≡ Some b → IsListed found b.low × IsListed found b.high
 
 equal_numbers : (k m : ℕ) → nat_eq k m ≡ true → k ≡ m
 equal_numbers k m h = grind (arith, nat_tests)
@@ -107,6 +113,45 @@ module _ (found more : List ℕ) (r : Ref) (w : IsWith found r more) where
       by (inr h) (inl g) = absurd (h.2 (contains_at found j k g))
       by (inr h) (inr g) = h.0 ∙ sym g.0
 
+-- the next listed fork shows its parts
+pub shown_goes_on : (forks : List Branch) (f : Ref) (found : List ℕ) (next k : ℕ) (b : Branch) → IsShown forks f found next → slice_get found next ≡ Some k → slice_get forks k ≡ Some b
+    → IsShown forks f (with_found (with_found found b.low) b.high) (next + 1)
+shown_goes_on forks f found next k b w at there = record {
+  begun = still_listed mid more b.high second f (still_listed found mid b.low first f w.begun);
+  few = let longer = first.longer in let longest = second.longer in let low = get_within found next k at in omega arith;
+  shown = λ i j c low here its. shown i j c its (cases_lt i next) low here;
+}
+  where
+    mid : List ℕ
+    mid = with_found found b.low
+
+    more : List ℕ
+    more = with_found mid b.high
+
+    first : IsWith found b.low mid
+    first = is_with found b.low
+
+    second : IsWith mid b.high more
+    second = is_with mid b.high
+
+    now : (r : Ref) → IsListed found r → IsListed more r
+    now r listed = still_listed mid more b.high second r (still_listed found mid b.low first r listed)
+
+    -- what stands at a place that there was stays
+    before : (i j : ℕ) → i < length found → slice_get more i ≡ Some j → slice_get found i ≡ Some j
+    before i j low here = let old = get_in found i low in old.1 ∙ sym (second.kept i old.0 (first.kept i old.0 old.1)) ∙ here
+
+    shown : (i j : ℕ) (c : Branch) → slice_get forks j ≡ Some c → (i < next) ⊎ (next ≤ i) → i < next + 1 → slice_get more i ≡ Some j → IsListed more c.low × IsListed more c.high
+    shown i j c its (inl earlier) low here =
+        let few = w.few in
+        let parts = w.shown i j c earlier (before i j (omega arith) here) its in
+        (now c.low parts.0, now c.high parts.1)
+    shown i j c its (inr later) low here =
+        let is : i ≡ next = omega arith in
+        let number : k ≡ j = one_at more next k j (second.kept next k (first.kept next k at)) (subst (λ (m : ℕ). slice_get more m ≡ Some j) is here) in
+        let branch : b ≡ c = one_at forks j b c (subst (λ (m : ℕ). slice_get forks m ≡ Some b) number there) its in
+        subst (λ (d : Branch). IsListed more d.low × IsListed more d.high) branch (still_listed mid more b.high second b.low first.listed, second.listed)
+
 module _ (forks : List Branch) (h : IsReduced forks) (f : Ref) where
   -- a part of a reached fork is reached
   pub part_reached : (k : ℕ) (w : IsReached forks f k) (side : Bool) (part : Ref) (j : ℕ) → IsPart forks w.branch.var side (Node k) part → part ≡ Node j → IsReached forks f j
@@ -154,11 +199,9 @@ module _ (forks : List Branch) (h : IsReduced forks) (f : Ref) where
   walk_begins ref =
       let w = is_with [] f in
       record {
-        begun = w.listed;
-        few = omega arith;
+        shows = record { begun = w.listed; few = omega arith; shown = λ i k b low at there. absurd (omega arith) };
         reached = λ i k at. first i k (w.cases i k at);
         once = still_once [] (with_found [] f) f w (λ i j k at there. elim (none i k at) [ ]);
-        shown = λ i k b low at there. absurd (omega arith);
       }
     where
       none : (i k : ℕ) → slice_get [] i ≡ Some k → ⊥
@@ -179,45 +222,16 @@ module _ (forks : List Branch) (h : IsReduced forks) (f : Ref) where
   -- the next listed fork shows its parts
   pub walk_goes_on : (found : List ℕ) (next k : ℕ) (b : Branch) → IsWalk forks f found next → slice_get found next ≡ Some k → slice_get forks k ≡ Some b → IsWalk forks f (with_found (with_found found b.low) b.high) (next + 1)
   walk_goes_on found next k b w at there = record {
-    begun = still_listed mid more b.high second f (still_listed found mid b.low first f w.begun);
-    few = let longer = first.longer in let longest = second.longer in let low = get_within found next k at in omega arith;
+    shows = shown_goes_on forks f found next k b w.shows at there;
     reached = with_reached mid b.high (with_reached found b.low w.reached (λ j is. part_reached k own false b.low j (low_part forks h k b own.branch.var there same) is)) (λ j is. part_reached k own true b.high j (high_part forks h k b own.branch.var there same) is);
-    once = still_once mid more b.high second (still_once found mid b.low first w.once);
-    shown = λ i j c low here its. shown i j c its (cases_lt i next) low here;
+    once = still_once mid (with_found mid b.high) b.high (is_with mid b.high) (still_once found mid b.low (is_with found b.low) w.once);
   }
     where
       mid : List ℕ
       mid = with_found found b.low
-
-      more : List ℕ
-      more = with_found mid b.high
-
-      first : IsWith found b.low mid
-      first = is_with found b.low
-
-      second : IsWith mid b.high more
-      second = is_with mid b.high
 
       own : IsReached forks f k
       own = w.reached next k at
 
       same : b.var ≡ own.branch.var
       same = ap (λ (d : Branch). d.var) (one_at forks k b own.branch there own.place)
-
-      now : (r : Ref) → IsListed found r → IsListed more r
-      now r listed = still_listed mid more b.high second r (still_listed found mid b.low first r listed)
-
-      -- what stands at a place that there was stays
-      before : (i j : ℕ) → i < length found → slice_get more i ≡ Some j → slice_get found i ≡ Some j
-      before i j low here = let old = get_in found i low in old.1 ∙ sym (second.kept i old.0 (first.kept i old.0 old.1)) ∙ here
-
-      shown : (i j : ℕ) (c : Branch) → slice_get forks j ≡ Some c → (i < next) ⊎ (next ≤ i) → i < next + 1 → slice_get more i ≡ Some j → IsListed more c.low × IsListed more c.high
-      shown i j c its (inl earlier) low here =
-          let few = w.few in
-          let parts = w.shown i j c earlier (before i j (omega arith) here) its in
-          (now c.low parts.0, now c.high parts.1)
-      shown i j c its (inr later) low here =
-          let is : i ≡ next = omega arith in
-          let number : k ≡ j = one_at more next k j (second.kept next k (first.kept next k at)) (subst (λ (m : ℕ). slice_get more m ≡ Some j) is here) in
-          let branch : b ≡ c = one_at forks j b c (subst (λ (m : ℕ). slice_get forks m ≡ Some b) number there) its in
-          subst (λ (d : Branch). IsListed more d.low × IsListed more d.high) branch (still_listed mid more b.high second b.low first.listed, second.listed)

@@ -83,6 +83,22 @@ with_found found Zero = found
 with_found found One = found
 with_found found (Node k) = if list_any (nat_eq k) found then found else found ++ k ∷ []
 
+-- a constant, or one of the listed forks
+abbrev pub IsListed : List ℕ → Ref → Type 0
+IsListed found Zero = Unit {0}
+IsListed found One = Unit {0}
+IsListed found (Node k) = Contains found k
+
+-- forks that were seen: each is there, and with it its parts were seen
+pub record AreSeen (forks : List Branch) (found : List ℕ) : Type 0 where
+  pub within : (k : ℕ) → Contains found k → k < length forks
+  pub closed : (k : ℕ) (b : Branch) → Contains found k → slice_get forks k ≡ Some b → IsListed found b.low × IsListed found b.high
+
+-- whether the forks of the diagram were seen and are within the limit; else nothing is said
+abbrev pub SeesFew : List Branch → Ref → ℕ → List ℕ → Bool → Type 0
+SeesFew forks f limit found true = AreSeen forks found × ¬ HasMoreForks (value_at forks f) limit
+SeesFew forks f limit found false = Unit {0}
+
 -- whether more than n forks come from the function
 abbrev pub IsMore : Function → ℕ → Bool → Type 0
 IsMore f n true = HasMoreForks f n

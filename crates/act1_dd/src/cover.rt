@@ -5,6 +5,7 @@ use crate::fault::DdFault;
 use crate::refs::Ref;
 use act1_base::Memory;
 use act1_logic::{Cover, Mark};
+use indexmap::IndexSet;
 
 // The diagram of a constant.
 fn constant(value: bool) -> Ref
@@ -60,10 +61,11 @@ impl Diagrams {
     {
         let output = constant(cover.output);
         let mut all = constant(!cover.output);
+        let mut seen = IndexSet::new(self.alloc);
         for (done, row) in cover.rows.as_slice().iter().enumerate() {
             let agrees = self.of_marks(row.marks.as_slice())?;
             all = self.ite(agrees, output, all)?;
-            if self.has_more_than(all, limit)? {
+            if self.exceeds(&mut seen, all, limit)? {
                 return Err(DdFault::Limit { rows: done + 1 });
             }
         }

@@ -84,7 +84,8 @@ fn take_back(
     propagate(problem, trail, mark)
 }
 
-// The hints that show the step of the choices that were assumed, where a clause is contradicted.
+// The hints that show the step of the choices that were assumed, where a clause is contradicted, in no more memory
+// than they need: they are most of a log.
 fn hints_of(
     alloc: Global,
     problem: &Problem,
@@ -102,7 +103,10 @@ fn hints_of(
     ensures shown { (chosen : List Choice) → IsTrail problem.now (choices_of steps.now) chosen trail.now.entries → IfOk result (λ hints. LeadToConflict problem.now (choices_of steps.now) (map taken chosen) hints) }
 {
     match broken {
-        Some(broken) => explain(alloc, problem, steps, trail, wanted.as_mut_slice(), broken),
+        Some(broken) => {
+            let hints = explain(alloc, problem, steps, trail, wanted.as_mut_slice(), broken)?;
+            Items::from_slice(alloc, hints.as_slice())
+        }
         None => unreachable!(),
     }
 }

@@ -6,10 +6,11 @@ use Rattle.act1_frame.specs.World.{World}
 use Rattle.act1_frame.proofs.Fine.{status_of_text}
 use Rattle.act1_frame.proofs.Runs.{IsLawful}
 use Rattle.act1_words.specs.declared.command.Command.{Command}
-use Rattle.act1_words.specs.declared.command.Command.TheVariants.{Unknown, Flow, Sim, Search, Blif}
+use Rattle.act1_words.specs.declared.command.Command.TheVariants.{Unknown, Flow, Sim, Search, Cover, Blif}
 use Rattle.act1_top.specs.Laws.{TextsAreOne}
 use Rattle.act1_top.specs.Run.{reads_of, writes_of, writes_at, usage_ending, MayEnd, IsDone, IsRefuted, IsSpent}
 use Rattle.act1_top.proofs.BlifLaws.{blif_lawful, blif_done, blif_never}
+use Rattle.act1_top.proofs.CoverLaws.{cover_lawful, cover_done, cover_never}
 use Rattle.act1_top.proofs.FlowLaws.{flow_lawful, flow_done, flow_never}
 use Rattle.act1_top.proofs.SearchLaws.{search_lawful, search_done, search_refuted, search_spent}
 use Rattle.act1_top.proofs.SimLaws.{sim_lawful, sim_done, sim_never}
@@ -20,6 +21,7 @@ lawful laws Unknown = usage_lawful
 lawful laws (Flow words) = flow_lawful laws (Flow words ≡ Unknown) words
 lawful laws (Sim words) = sim_lawful laws (Sim words ≡ Unknown) words
 lawful laws (Search words) = search_lawful laws (Search words ≡ Unknown) words
+lawful laws (Cover words) = cover_lawful laws (Cover words ≡ Unknown) words
 lawful laws (Blif words) = blif_lawful laws (Blif words ≡ Unknown) words
 
 module _ (laws : TextsAreOne) (before : World) (result : ℕ) (after : World) (e : Ending) (leaves : Leaves e before.shelf before.paper result after.shelf after.paper) where
@@ -28,6 +30,7 @@ module _ (laws : TextsAreOne) (before : World) (result : ℕ) (after : World) (e
   is_done (Flow words) may zero r = flow_done words before result after e may leaves zero r
   is_done (Sim words) may zero r = sim_done words before result after e may leaves zero r
   is_done (Search words) may zero r = search_done laws words before result after e leaves may zero r
+  is_done (Cover words) may zero r = cover_done words before result after e may leaves zero r
   is_done (Blif words) may zero r = blif_done words before result after e may leaves zero r
 
   pub is_refuted : (command : Command) → MayEnd command before.shelf after.shelf e → e.status ≡ 10 → result ≡ 10 → IsRefuted command before after
@@ -35,6 +38,7 @@ module _ (laws : TextsAreOne) (before : World) (result : ℕ) (after : World) (e
   is_refuted (Flow words) may ten r = flow_never words before.shelf after.shelf e may (omega (arith, ten)) (omega (arith, ten))
   is_refuted (Sim words) may ten r = sim_never words before.shelf after.shelf e may (omega (arith, ten)) (omega (arith, ten))
   is_refuted (Search words) may ten r = search_refuted laws words before result after e leaves may ten r
+  is_refuted (Cover words) may ten r = cover_never words before.shelf after.shelf e may (omega (arith, ten)) (omega (arith, ten))
   is_refuted (Blif words) may ten r = blif_never words before.shelf after.shelf e may (omega (arith, ten)) (omega (arith, ten))
 
   pub is_spent : (command : Command) → MayEnd command before.shelf after.shelf e → e.status ≡ 11 → result ≡ 11 → IsSpent command before after
@@ -42,6 +46,7 @@ module _ (laws : TextsAreOne) (before : World) (result : ℕ) (after : World) (e
   is_spent (Flow words) may eleven r = flow_never words before.shelf after.shelf e may (omega (arith, eleven)) (omega (arith, eleven))
   is_spent (Sim words) may eleven r = sim_never words before.shelf after.shelf e may (omega (arith, eleven)) (omega (arith, eleven))
   is_spent (Search words) may eleven r = search_spent laws words before result after e leaves may eleven r
+  is_spent (Cover words) may eleven r = cover_never words before.shelf after.shelf e may (omega (arith, eleven)) (omega (arith, eleven))
   is_spent (Blif words) may eleven r = blif_never words before.shelf after.shelf e may (omega (arith, eleven)) (omega (arith, eleven))
 
 -- words that are no command have the status 1
@@ -50,4 +55,5 @@ usage_status Unknown before after e may is = status_of_text 1 usage_ending.text 
 usage_status (Flow words) before after e may is = cc
 usage_status (Sim words) before after e may is = cc
 usage_status (Search words) before after e may is = cc
+usage_status (Cover words) before after e may is = cc
 usage_status (Blif words) before after e may is = cc

@@ -1,6 +1,7 @@
 pub mod BlifLaws
 pub mod Commands
 pub mod Constants
+pub mod CoverLaws
 pub mod FlowLaws
 pub mod Places
 pub mod SearchLaws

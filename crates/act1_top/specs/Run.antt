@@ -6,8 +6,9 @@ use Rattle.act1_frame.specs.Endings.{refusal}
 use Rattle.act1_frame.specs.Reading.{Wanted}
 use Rattle.act1_frame.specs.World.{World}
 use Rattle.act1_words.specs.declared.command.Command.{Command}
-use Rattle.act1_words.specs.declared.command.Command.TheVariants.{Unknown, Flow, Sim, Search, Blif}
+use Rattle.act1_words.specs.declared.command.Command.TheVariants.{Unknown, Flow, Sim, Search, Cover, Blif}
 use Rattle.act1_top.specs.BlifCommand.{blif_reads, BlifMayEnd, BlifIsDone}
+use Rattle.act1_top.specs.CoverCommand.{cover_reads, CoverMayEnd, CoverIsDone}
 use Rattle.act1_top.specs.FlowCommand.{flow_reads, flow_writes, flow_writes_at, FlowMayEnd, FlowIsDone}
 use Rattle.act1_top.specs.SearchCommand.{search_reads, search_writes, search_writes_at, SearchMayEnd, SearchIsDone, SearchIsRefuted, SearchIsSpent}
 use Rattle.act1_top.specs.SimCommand.{sim_reads, SimMayEnd, SimIsDone}
@@ -18,6 +19,7 @@ reads_of Unknown = []
 reads_of (Flow words) = flow_reads words
 reads_of (Sim words) = sim_reads words
 reads_of (Search words) = search_reads words
+reads_of (Cover words) = cover_reads words
 reads_of (Blif words) = blif_reads words
 
 -- the files that a command may write
@@ -26,6 +28,7 @@ writes_of Unknown = []
 writes_of (Flow words) = flow_writes words
 writes_of (Sim words) = []
 writes_of (Search words) = search_writes words
+writes_of (Cover words) = []
 writes_of (Blif words) = []
 
 -- those that it writes at a status
@@ -34,6 +37,7 @@ writes_at Unknown status = []
 writes_at (Flow words) status = flow_writes_at words status
 writes_at (Sim words) status = []
 writes_at (Search words) status = search_writes_at words status
+writes_at (Cover words) status = []
 writes_at (Blif words) status = []
 
 -- words that are no command
@@ -46,6 +50,7 @@ MayEnd Unknown before after e = e ≡ usage_ending
 MayEnd (Flow words) before after e = FlowMayEnd words before after e
 MayEnd (Sim words) before after e = SimMayEnd words before after e
 MayEnd (Search words) before after e = SearchMayEnd words before after e
+MayEnd (Cover words) before after e = CoverMayEnd words before after e
 MayEnd (Blif words) before after e = BlifMayEnd words before after e
 
 -- what status 0 says of a command
@@ -54,6 +59,7 @@ IsDone Unknown before after = ⊥
 IsDone (Flow words) before after = FlowIsDone words before after
 IsDone (Sim words) before after = SimIsDone words before after
 IsDone (Search words) before after = SearchIsDone words before after
+IsDone (Cover words) before after = CoverIsDone words before after
 IsDone (Blif words) before after = BlifIsDone words before after
 
 -- what status 10 says of a command, which `search` alone answers today
@@ -62,6 +68,7 @@ IsRefuted Unknown before after = ⊥
 IsRefuted (Flow words) before after = ⊥
 IsRefuted (Sim words) before after = ⊥
 IsRefuted (Search words) before after = SearchIsRefuted words before after
+IsRefuted (Cover words) before after = ⊥
 IsRefuted (Blif words) before after = ⊥
 
 -- what status 11 says of a command, which `search` alone answers today
@@ -70,4 +77,5 @@ IsSpent Unknown before after = ⊥
 IsSpent (Flow words) before after = ⊥
 IsSpent (Sim words) before after = ⊥
 IsSpent (Search words) before after = SearchIsSpent words before after
+IsSpent (Cover words) before after = ⊥
 IsSpent (Blif words) before after = ⊥

@@ -6,6 +6,7 @@ ghost use Rattle.act1_top.specs.Run.{MayEnd, usage_ending};
 ghost use Rattle.act1_words.specs.Commands.{command_of};
 
 use crate::blif_command::blif_ending;
+use crate::cover_command::cover_ending;
 use crate::flow_command::flow_ending;
 use crate::search_command::search_ending;
 use crate::sim_command::sim_ending;
@@ -38,6 +39,7 @@ fn ending_of<F: Files>(alloc: Global, files: &mut F, command: &Command) -> Resul
         Command::Flow(words) => flow_ending(alloc, files, words),
         Command::Sim(words) => sim_ending(alloc, files, words),
         Command::Search(words) => search_ending(alloc, files, words),
+        Command::Cover(words) => cover_ending(alloc, files, words),
         Command::Blif(words) => blif_ending(alloc, files, words),
     }
 }

@@ -2,6 +2,7 @@
 #![tactic(auto)]
 
 mod blif_command;
+mod cover_command;
 mod decide;
 mod flow_command;
 mod found;

@@ -23,7 +23,7 @@ pub fn run<F: Files, S: Sink, H: Helpers>(
     out: &mut S,
     helpers: &mut H,
 ) -> u8
-    // Status 0 of `flow` is the headline; status 0 of `sim` and `blif` is what is printed. Status 0 of `search` is an
+    // Status 0 of `flow` is the headline; status 0 of `sim`, `cover` and `blif` is what is printed. Status 0 of `search` is an
     // assignment, 10 a refutation and 11 a budget that is spent.
     ensures done { result ≡ 0 → IsDone (command_of (map string_bytes words.now)) (world_of (F.seen files.old) (S.seen out.old) (H.seen helpers.old)) (world_of (F.seen files.new) (S.seen out.new) (H.seen helpers.new)) }
     ensures refuted { result ≡ 10 → IsRefuted (command_of (map string_bytes words.now)) (world_of (F.seen files.old) (S.seen out.old) (H.seen helpers.old)) (world_of (F.seen files.new) (S.seen out.new) (H.seen helpers.new)) }

@@ -3,7 +3,7 @@ use Rattle.std.proofs.Common.{◌≡◌, Bool, true, false, List, codes, Option,
 use Rattle.clap.specs.Words.{App, Text, first_value, found_of, is_simple_and_free, with_rule}
 use Rattle.clap.specs.declared.parser.matches.ArgMatches.{ArgMatches}
 use Rattle.clap.proofs.OnLiterals.{clap_on_literals}
-use Rattle.act1_words.specs.Commands.{blif_app, flow_app, flow_words, search_app, sim_app, IsInRanges}
+use Rattle.act1_words.specs.Commands.{blif_app, cover_app, flow_app, flow_words, search_app, sim_app, IsInRanges}
 use Rattle.act1_words.specs.Given.{Given, are_taken, file_rule, given_by, is_number, number_rule, plain_app, taken, text_rule, IsFoundOf, IsParseOf}
 
 pub flow_steps : (plain device blif fuses report k budget seed jobs whole : App) → plain ≡ plain_app (codes "flow")
@@ -39,6 +39,13 @@ unfolding search_app
 search_steps plain job whole a b c =
     c ∙ ap (λ x. with_rule x (file_rule (codes "ANSWER"))) (b ∙ ap (λ x. with_rule x (file_rule (codes "JOB"))) a)
 
+pub cover_steps : (plain whole : App) → plain ≡ plain_app (codes "cover")
+    → whole ≡ with_rule plain (file_rule (codes "BLIF"))
+    → whole ≡ cover_app
+unfolding cover_app
+cover_steps plain whole a b =
+    b ∙ ap (λ x. with_rule x (file_rule (codes "BLIF"))) a
+
 pub blif_steps : (plain whole : App) → plain ≡ plain_app (codes "blif")
     → whole ≡ with_rule plain (file_rule (codes "BLIF"))
     → whole ≡ blif_app
@@ -66,6 +73,13 @@ search_simple = refl
 
 pub search_is_simple : (app : App) → app ≡ search_app → is_simple_and_free app ≡ true
 search_is_simple app is = ap is_simple_and_free is ∙ search_simple
+
+cover_simple : is_simple_and_free cover_app ≡ true
+unfolding cover_app file_rule plain_app clap_on_literals
+cover_simple = refl
+
+pub cover_is_simple : (app : App) → app ≡ cover_app → is_simple_and_free app ≡ true
+cover_is_simple app is = ap is_simple_and_free is ∙ cover_simple
 
 blif_simple : is_simple_and_free blif_app ≡ true
 unfolding blif_app file_rule plain_app clap_on_literals

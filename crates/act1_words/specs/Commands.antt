@@ -4,8 +4,9 @@ use Rattle.std.specs.Str.{bytes_eq}
 use Rattle.clap.specs.Words.{App, Rule, Text, with_rule}
 use Rattle.act1_words.specs.Given.{Given, file_rule, number_at, number_rule, plain_app, taken, text_at, text_rule}
 use Rattle.act1_words.specs.declared.command.BlifWords.{BlifWords}
+use Rattle.act1_words.specs.declared.command.CoverWords.{CoverWords}
 use Rattle.act1_words.specs.declared.command.Command.{Command}
-use Rattle.act1_words.specs.declared.command.Command.TheVariants.{Unknown, Flow, Sim, Search, Blif}
+use Rattle.act1_words.specs.declared.command.Command.TheVariants.{Unknown, Flow, Sim, Search, Cover, Blif}
 use Rattle.act1_words.specs.declared.command.FlowWords.{FlowWords}
 use Rattle.act1_words.specs.declared.command.SearchWords.{SearchWords}
 use Rattle.act1_words.specs.declared.command.SimWords.{SimWords}
@@ -29,6 +30,10 @@ sim_app = with_rules (plain_app (codes "sim")) (file_rule (codes "DEVICE") ∷ f
 -- `search JOB ANSWER`
 unfoldable pub search_app : App
 search_app = with_rules (plain_app (codes "search")) (file_rule (codes "JOB") ∷ file_rule (codes "ANSWER") ∷ [])
+
+-- `cover BLIF`
+unfoldable pub cover_app : App
+cover_app = with_rules (plain_app (codes "cover")) (file_rule (codes "BLIF") ∷ [])
 
 -- `blif BLIF`
 unfoldable pub blif_app : App
@@ -59,6 +64,9 @@ sim_words given = record {
 abbrev pub search_words : Given → SearchWords
 search_words given = record { job = text_at given (codes "JOB"); answer = text_at given (codes "ANSWER") }
 
+abbrev pub cover_words : Given → CoverWords
+cover_words given = record { blif = text_at given (codes "BLIF") }
+
 abbrev pub blif_words : Given → BlifWords
 blif_words given = record { blif = text_at given (codes "BLIF") }
 
@@ -79,6 +87,10 @@ abbrev pub search_asked : Option SearchWords → Command
 search_asked None = Unknown
 search_asked (Some words) = Search words
 
+abbrev pub cover_asked : Option CoverWords → Command
+cover_asked None = Unknown
+cover_asked (Some words) = Cover words
+
 abbrev pub blif_asked : Option BlifWords → Command
 blif_asked None = Unknown
 blif_asked (Some words) = Blif words
@@ -90,6 +102,7 @@ command_of (word ∷ rest) =
     if bytes_eq word (codes "flow") then flow_asked (taken flow_app flow_words (word ∷ rest))
     else if bytes_eq word (codes "sim") then sim_asked (taken sim_app sim_words (word ∷ rest))
     else if bytes_eq word (codes "search") then search_asked (taken search_app search_words (word ∷ rest))
+    else if bytes_eq word (codes "cover") then cover_asked (taken cover_app cover_words (word ∷ rest))
     else if bytes_eq word (codes "blif") then blif_asked (taken blif_app blif_words (word ∷ rest))
     else Unknown
 
@@ -107,4 +120,5 @@ AreInRanges Unknown = Unit {0}
 AreInRanges (Flow words) = IsInRanges words
 AreInRanges (Sim words) = Unit {0}
 AreInRanges (Search words) = Unit {0}
+AreInRanges (Cover words) = Unit {0}
 AreInRanges (Blif words) = Unit {0}

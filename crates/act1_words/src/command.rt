@@ -54,6 +54,13 @@ pub struct BlifWords {
     pub blif: Word,
 }
 
+/// The words of `cover BLIF`.
+#[derive(Debug, Drop)]
+pub struct CoverWords {
+    /// The netlist.
+    pub blif: Word,
+}
+
 /// What the words ask for.
 #[derive(Debug, Drop)]
 pub enum Command {
@@ -65,6 +72,8 @@ pub enum Command {
     Sim(SimWords),
     /// Searches tracks for the connections of a channel, and writes the answer.
     Search(SearchWords),
+    /// Prints the least covers of a netlist's nodes. It writes no file.
+    Cover(CoverWords),
     /// Prints the canonical text of a netlist. It writes no file.
     Blif(BlifWords),
 }

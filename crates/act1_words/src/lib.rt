@@ -4,11 +4,12 @@
 mod arguments;
 mod blif_words;
 mod command;
+mod cover_words;
 mod flow_words;
 mod search_words;
 mod sim_words;
 mod words;
 
 pub use act1_frame::Word;
-pub use command::{BlifWords, Command, FlowWords, SearchWords, SimWords};
+pub use command::{BlifWords, Command, CoverWords, FlowWords, SearchWords, SimWords};
 pub use words::command_of;

@@ -3,6 +3,7 @@ ghost use Rattle.act1_words.specs.Commands.{command_of, AreInRanges};
 
 use crate::blif_words::blif_command;
 use crate::command::Command;
+use crate::cover_words::cover_command;
 use crate::flow_words::flow_command;
 use crate::search_words::search_command;
 use crate::sim_words::sim_command;
@@ -12,7 +13,7 @@ use std::alloc::Global;
 /// The command that the words ask for, or `Unknown` where they ask for none.
 ///
 /// The first word names it: `flow DEVICE BLIF FUSES REPORT [--k N] [--budget N] [--seed N] [--jobs N] [--with
-/// PROGRAM]`, `sim DEVICE FUSES VECTORS [--fill N]`, `search JOB ANSWER` or `blif BLIF`. `clap` reads the words as
+/// PROGRAM]`, `sim DEVICE FUSES VECTORS [--fill N]`, `search JOB ANSWER`, `cover BLIF` or `blif BLIF`. `clap` reads the words as
 /// one simple command of that name, without help and version flags: a word that begins with `-` is an option, but
 /// for `-` itself and what stands behind `--`; each option stands once at most, as `--k N` or `--k=N`, its number
 /// within its range. `Unknown` comes exactly where there is no such first word, `clap` refuses the words, or
@@ -31,6 +32,8 @@ pub fn command_of(alloc: Global, words: &[String]) -> Result<Command, Memory>
         sim_command(alloc, words)
     } else if word.as_str() == "search" {
         search_command(alloc, words)
+    } else if word.as_str() == "cover" {
+        cover_command(alloc, words)
     } else if word.as_str() == "blif" {
         blif_command(alloc, words)
     } else {

@@ -1,8 +1,10 @@
-use Rattle.std.proofs.Common.{◌≡◌, ◌<◌, List, length, ap, ◌∙◌, arith}
+use Rattle.std.proofs.Common.{ℕ, ◌≡◌, ◌<◌, List, length, sym, subst, ap, ◌∙◌, arith}
 use Rattle.act1_logic.specs.declared.cover.Row.{Row}
 use Rattle.act1_dd.specs.Inputs.{Inputs}
 use Rattle.act1_dd.specs.Diagram.{value_at}
 use Rattle.act1_dd.specs.Limit.{cover_function}
+use Rattle.act1_dd.specs.Steps.{AreSeen}
+use Rattle.act1_dd.proofs.Seen.{none_seen, still_seen}
 use Rattle.act1_dd.proofs.Growing.{keeps_all, keeps_then}
 use Rattle.act1_dd.proofs.Rows.{all_rows, cover_listed, cover_within, few_more, few_none, get_read, row_is_few, row_is_more, row_made}
 use Rattle.act1_dd.proofs.diagrams.Diagrams.from_cover.Goals as goal
@@ -13,7 +15,15 @@ loop-done-init c = record {
   is_ref = (c.constant-all.ensures c.args.self.now).0;
   value = (c.constant-all.ensures c.args.self.now).1;
   few = few_none c.args.cover.now c.args.limit;
+  seen = subst (λ (found : List ℕ). AreSeen c.args.self.now found) (sym c.new-seen.ensures.empty) (none_seen c.args.self.now);
 }
+
+pub exceeds-requires-clause-seen : goal.exceeds-requires-clause-seen
+exceeds-requires-clause-seen c =
+    let old = c.loop-done.self in
+    let mid = c.of_marks.new.self in
+    let now = c.ite.new.self in
+    still_seen old now (keeps_then old mid now c.in_ok-agrees.ensures.keeps c.in_ok-all.ensures.keeps) c.loop-done.seen.keys c.loop-done.invariant.seen
 
 pub ite-requires-clause-g : goal.ite-requires-clause-g
 ite-requires-clause-g c = (c.constant-output.ensures c.of_marks.new.self).0
@@ -36,7 +46,8 @@ loop-done-preserved c =
       few = few_more cover c.args.limit i c.loop-done.invariant.few
           (row_is_few cover old mid now c.in_ok-agrees.ensures.keeps c.in_ok-all.ensures.keeps i row c.as_slice.result.now at c.as_slice.ensures c.in_ok-agrees.agrees c.constant-output.result c.loop-done.all c.in_ok-all.all
           c.in_ok-agrees.ensures.is_ref c.in_ok-agrees.ensures.value c.constant-output.ensures c.loop-done.invariant.is_ref c.loop-done.invariant.value c.in_ok-all.ensures.value
-          c.args.limit c.in_ok-has_more_than.field-0 c.in_ok-has_more_than.ensures c.if-branch.false);
+          c.args.limit c.in_ok-exceeds.field-0 c.in_ok-exceeds.ensures.more c.if-branch.false);
+      seen = c.in_ok-exceeds.ensures.seen;
     }
 
 pub returns-then-branch-clause-diagram : goal.returns-then-branch-clause-diagram
@@ -52,7 +63,7 @@ returns-then-branch-clause-diagram c =
       more = row_is_more cover c.loop-done.self c.of_marks.new.self c.ite.new.self c.in_ok-agrees.ensures.keeps c.in_ok-all.ensures.keeps i row c.as_slice.result.now at c.as_slice.ensures
           c.in_ok-agrees.agrees c.constant-output.result c.loop-done.all c.in_ok-all.all
           c.in_ok-agrees.ensures.is_ref c.in_ok-agrees.ensures.value c.constant-output.ensures c.loop-done.invariant.is_ref c.loop-done.invariant.value c.in_ok-all.ensures.value
-          c.args.limit c.in_ok-has_more_than.field-0 c.in_ok-has_more_than.ensures c.if-branch.true;
+          c.args.limit c.in_ok-exceeds.field-0 c.in_ok-exceeds.ensures.more c.if-branch.true;
       least = λ j less. c.loop-done.invariant.few j (omega arith);
     }
 

@@ -4,7 +4,7 @@ use Rattle.std.proofs.lemmas.Bool.{cases_lt}
 use Rattle.act1_dd.specs.Steps.{with_found}
 use Rattle.act1_base.proofs.ListGets.{get_in, get_within}
 use Rattle.act1_dd.proofs.ForkCounts.{walk_is_more, walk_is_all}
-use Rattle.act1_dd.proofs.Walks.{IsWalk, walk_begins, walk_goes_on}
+use Rattle.act1_dd.proofs.Walks.{IsWalk, past, walk_begins, walk_goes_on}
 use Rattle.act1_dd.proofs.diagrams.Diagrams.has_more_than.Goals as goal
 
 pub loop-node-init : goal.loop-node-init
@@ -40,14 +40,6 @@ loop-node-preserved c =
           (walk_goes_on forks c.are_reduced.ensures f old c.loop-node.next c.in-Some.node.now b c.loop-node.invariant.walk at c.branch-branch.ensures.place);
       few = omega arith;
     }
-
--- a list has nothing at a place past its end
-past : (found : List ℕ) (next : ℕ) → None ≡ slice_get found next → length found ≤ next
-past found next none = by (cases_lt next (length found))
-  where
-    by : (next < length found) ⊎ (length found ≤ next) → length found ≤ next
-    by (inl low) = let at = get_in found next low in let e : None ≡ Some at.0 = none ∙ at.1 in cc
-    by (inr more) = more
 
 pub returns : goal.returns
 returns c =

@@ -1,0 +1,11 @@
+pub mod Costs
+pub mod Denotes
+pub mod Forests
+pub mod Least
+pub mod Pins
+pub mod Stores
+pub mod Text
+pub mod TextSteps
+pub mod Tilings
+pub mod Values
+pub mod Visiting

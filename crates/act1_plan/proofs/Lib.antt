@@ -1,0 +1,9 @@
+pub mod Inverses
+pub mod LegalFacts
+pub mod OrderLoops
+pub mod PlanLines
+pub mod PlanSteps
+pub mod PlanTexts
+pub mod PlanWrites
+pub mod RankFacts
+pub mod SiteOrders

@@ -1,0 +1,11 @@
+pub mod Legal
+pub mod LegalTest
+pub mod Lines
+pub mod Lists
+pub mod Nets
+pub mod Order
+pub mod OrderSteps
+pub mod Plans
+pub mod Reads
+pub mod Steps
+pub mod Texts
