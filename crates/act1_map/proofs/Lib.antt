@@ -1,0 +1,11 @@
+pub mod DiagramForks
+pub mod FewModules
+pub mod Gets
+pub mod LeastNeed
+pub mod LeastOne
+pub mod MappedForm
+pub mod MappedLevels
+pub mod MappedMeaning
+pub mod NetMeaning
+pub mod ReadModules
+pub mod TilePins

@@ -1,0 +1,5 @@
+pub mod Laws
+pub mod Least
+pub mod Mapped
+pub mod Meaning
+pub mod Read

@@ -1,0 +1,14 @@
+use Rattle.std.proofs.Common.{length, refl, ap, arith}
+use Rattle.act1_place.proofs.GainFacts.{few_nets, new_keeps}
+use Rattle.act1_place.proofs.gains.Gains.new.Goals as goal
+
+pub touching_of-requires-clause-nets : goal.touching_of-requires-clause-nets
+touching_of-requires-clause-nets c =
+    let few = few_nets c.args.device.now c.args.circuit.now c.requires.range c.args.spots.now c.requires.each c.in_ok-nets.nets c.in_ok-nets.ensures in
+    omega (arith, few, ap length c.as_slice.ensures)
+
+pub invariant_of-result : goal.invariant_of-result
+invariant_of-result c =
+    let touched = rw c.as_slice.ensures at c.in_ok-touching.ensures in
+    rw (c.nets.view_is, c.touching.view_is)
+    (new_keeps c.args.device.now c.args.circuit.now c.requires.range c.args.spots.now c.requires.each c.in_ok-nets.nets c.in_ok-nets.ensures c.in_ok-touching.touching c.in_ok-at.at (length c.args.spots.now) c.in_ok-from_slice.field-0 refl touched c.in_ok-at.ensures c.in_ok-from_slice.ensures)

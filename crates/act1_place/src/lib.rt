@@ -1,0 +1,16 @@
+//! Placement: where the modules of a circuit stand on a device, by the sum of the half perimeters of its nets.
+#![tactic(auto)]
+
+mod gains;
+mod laws;
+mod net;
+mod nets;
+mod placement;
+mod placing;
+mod start;
+mod sums;
+
+pub use gains::Gains;
+pub use laws::{kept_is_total, one_placement};
+pub use placement::{PlaceStop, Placement};
+pub use placing::place;
