@@ -31,8 +31,8 @@ fn circuit_of_file<R: Files>(rt: &R, alloc: Global, device: &Device, name: &str)
     circuit_in(alloc, device, &file)
 }
 
-// The circuit of a device and an antifuse file.
-fn circuit_from<R: Files>(rt: &R, alloc: Global, device: &str, fuses: &str) -> Option<Circuit>
+/// The circuit of a device and an antifuse file.
+pub fn circuit_from<R: Files>(rt: &R, alloc: Global, device: &str, fuses: &str) -> Option<Circuit>
     ensures { IfSome result (λ circuit. InRange circuit) }
 {
     let device = device_of(rt, alloc, device)?;

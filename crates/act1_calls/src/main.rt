@@ -35,6 +35,8 @@
 //! | `watch JOB WORD ..` | what a watch of a job's problem knows at first, and after each choice `C@T` that is assumed and each `learn`: the number of choices, and `conflict` or the choices that are taken and, behind a bar, those that are refused |
 //! | `plan TEXT` | the plan as it is written, or the line that is refused |
 //! | `legal DEVICE TEXT` | whether a plan is legal for the device |
+//! | `place DEVICE FUSES TARGET SEED` | where the modules of the array's circuit stand on another device, or what it has too few of |
+//! | `gains DEVICE FUSES TARGET SEED COLUMN` | from there the contents of the first site and of the one in this column of its row change places: the sum of half perimeters then, and what the exchange back would gain |
 //! | `written DEVICE FUSES` | the antifuse file as it is written |
 //! | `filled B DEVICE FUSES VECTORS` | the outputs where each module without a start of 0 or 1 begins with B |
 //! | `form DEVICE FUSES` | the latch pairs of the circuit, master and slave, and its other modules; or the first fault |
@@ -51,6 +53,7 @@ mod jobs;
 mod logs;
 mod netlists;
 mod nets;
+mod places;
 mod plans;
 mod searches;
 mod tables;
@@ -103,6 +106,8 @@ fn add_given<R: Files>(rt: &R, alloc: Global, words: &[&str], text: &mut String)
         "watch" => watches::watch_row(rt, alloc, words, text),
         "plan" => plans::plan_row(alloc, words, text),
         "legal" => plans::legal_row(rt, alloc, words, text),
+        "place" => places::place_row(rt, alloc, words, text),
+        "gains" => places::gains_row(rt, alloc, words, text),
         "written" => arrays::written_row(rt, alloc, words, text),
         "filled" => arrays::filled_row(rt, alloc, words, text),
         "form" => circuits::form_row(rt, alloc, words, text),
