@@ -1,3 +1,6 @@
+pub mod CoverInputs
+pub mod CoverNodes
+pub mod CoverReads
 pub mod DiagramForks
 pub mod FewModules
 pub mod Gets
@@ -7,5 +10,6 @@ pub mod MappedForm
 pub mod MappedLevels
 pub mod MappedMeaning
 pub mod NetMeaning
+pub mod OwnSources
 pub mod ReadModules
 pub mod TilePins

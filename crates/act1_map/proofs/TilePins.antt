@@ -14,15 +14,15 @@ use Rattle.act1_cover.proofs.TileBelow.{end_below}
 use Rattle.act1_map.proofs.Gets.{got}
 
 -- what holds of each element, by recursion
-abbrev Each : {X : Type 0} → (X → Type 0) → List X → Type 0
+abbrev pub Each : {X : Type 0} → (X → Type 0) → List X → Type 0
 Each P [] = Unit {0}
 Each P (x ∷ xs) = P x × Each P xs
 
-each_append : {X : Type 0} (P : X → Type 0) (xs ys : List X) → Each P xs → Each P ys → Each P (xs ++ ys)
+pub each_append : {X : Type 0} (P : X → Type 0) (xs ys : List X) → Each P xs → Each P ys → Each P (xs ++ ys)
 each_append P [] ys h g = g
 each_append P (x ∷ xs) ys h g = (h.0, each_append P xs ys h.1 g)
 
-each_in : {X : Type 0} (P : X → Type 0) (xs : List X) → Each P xs → (x : X) → Contains xs x → P x
+pub each_in : {X : Type 0} (P : X → Type 0) (xs : List X) → Each P xs → (x : X) → Contains xs x → P x
 each_in P [] h x (i, low, e) = absurd (omega arith)
 each_in P (y ∷ xs) h x (zero, low, e) = subst P e h.0
 each_in P (y ∷ xs) h x (suc i, low, e) = each_in P xs h.1 x (i, omega arith, e)

@@ -10,6 +10,7 @@ use Rattle.act1_net.specs.Net.{IsNetOf}
 use Rattle.act1_map.specs.Least.{IsLeast}
 use Rattle.act1_map.specs.Mapped.{Tables, IsMapped}
 use Rattle.act1_map.specs.Meaning.{IsNet, PortsOfNet, MeansNet}
+use Rattle.act1_map.specs.Own.{HasOwnSources}
 use Rattle.act1_map.specs.Read.{IsFull, IsSource}
 
 -- a circuit that is mapped from a net is in pair form and means the net, in every order of firing
@@ -23,6 +24,10 @@ MappedIsRead = (n : Net) (c : Circuit) (t : Tables) → IsNet n → IsMapped n c
 -- and the circuit has at most the least count of modules
 abbrev pub MappedIsFew : Type 0
 MappedIsFew = (n : Net) (c : Circuit) (t : Tables) → IsNet n → IsMapped n c t → IsFull n t → (k : ℕ) → IsLeast n.blif k → length c.modules ≤ k
+
+-- each latch has a start, and outputs that are inputs or latches have these as their sources
+abbrev pub MappedHasOwnSources : Type 0
+MappedHasOwnSources = (n : Net) (c : Circuit) (t : Tables) → IsMapped n c t → HasOwnSources c n
 
 -- a circuit that means a net means each netlist that the net does the same as
 abbrev pub NetMeansNetlist : Type 0

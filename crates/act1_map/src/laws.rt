@@ -1,5 +1,5 @@
 ghost use Rattle.act1_map.specs.Least.{LeastIsAtMostNeed, LeastIsOne};
-ghost use Rattle.act1_map.specs.Laws.{MappedIsFew, MappedIsRead, MappedMeans, NetHasTerms, NetMeansNetlist};
+ghost use Rattle.act1_map.specs.Laws.{MappedHasOwnSources, MappedIsFew, MappedIsRead, MappedMeans, NetHasTerms, NetMeansNetlist};
 
 use act1_blif::{latch_names_differ, netlists_are_whole, valuations_have_signals};
 use act1_circuit::pairs_are_clocked;
@@ -19,6 +19,12 @@ pub fn mapped_means()
     tiles_give_values();
     carrying_means();
 }
+
+/// The law of outputs: in a mapped circuit each latch has a start, an output that is an input has that input
+/// as its source, and one that is a latch has the module of the latch's start.
+pub fn mapped_has_own_sources()
+    ensures { MappedHasOwnSources }
+{}
 
 /// The law of modules: where the tiles are those of nodes that are used, each module of a mapped circuit is
 /// the source of some pin or output, and there are at most as many as the net's least count.

@@ -5,6 +5,7 @@ pub mod GainSteps
 pub mod Growing
 pub mod KeptSums
 pub mod LocalSums
+pub mod MoveSums
 pub mod NetFinds
 pub mod PadFacts
 pub mod PassLaws

@@ -1,6 +1,7 @@
 pub mod Gains
 pub mod Kept
 pub mod Laws
+pub mod Moves
 pub mod NetSteps
 pub mod Passes
 pub mod Perimeter

@@ -103,6 +103,8 @@ impl Gains {
     }
 
     /// The sums of a circuit whose modules stand at these spots, one for each.
+    ///
+    /// Errors: `Memory`, where there is none.
     pub fn new(
         alloc: Global,
         device: &Device,
@@ -136,7 +138,8 @@ impl Gains {
         total_of(self.nets.as_slice(), self.spots.as_slice())
     }
 
-    /// The total now less the total after the exchange of the contents of both sites. It takes no memory.
+    /// The total now less the total after the exchange of the contents of both sites, of which either or both may be
+    /// empty. It takes no memory.
     pub fn gain(&self, a: Spot, b: Spot) -> i64
         requires first { IsInside self.now.rows self.now.columns a }
         requires second { IsInside self.now.rows self.now.columns b }

@@ -11,6 +11,6 @@ mod start;
 mod sums;
 
 pub use gains::Gains;
-pub use laws::{kept_is_total, one_placement};
+pub use laws::{exchanges_are_by_sums, kept_is_total, one_placement};
 pub use placement::{PlaceStop, Placement};
 pub use placing::place;
