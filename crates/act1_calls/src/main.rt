@@ -37,6 +37,7 @@
 //! | `legal DEVICE TEXT` | whether a plan is legal for the device |
 //! | `place DEVICE FUSES TARGET SEED` | where the modules of the array's circuit stand on another device, or what it has too few of |
 //! | `gains DEVICE FUSES TARGET SEED COLUMN` | from there the contents of the first site and of the one in this column of its row change places: the sum of half perimeters then, and what the exchange back would gain |
+//! | `anew DEVICE PLAN SEED` | the sum of half perimeters where the modules of a plan that is legal for the device are placed anew, and a mark of their spots in order: from 0 on, of each spot, 31 times the mark so far and 64 times the row and the column, modulo 1,000,003 |
 //! | `written DEVICE FUSES` | the antifuse file as it is written |
 //! | `filled B DEVICE FUSES VECTORS` | the outputs where each module without a start of 0 or 1 begins with B |
 //! | `form DEVICE FUSES` | the latch pairs of the circuit, master and slave, and its other modules; or the first fault |
@@ -108,6 +109,7 @@ fn add_given<R: Files>(rt: &R, alloc: Global, words: &[&str], text: &mut String)
         "legal" => plans::legal_row(rt, alloc, words, text),
         "place" => places::place_row(rt, alloc, words, text),
         "gains" => places::gains_row(rt, alloc, words, text),
+        "anew" => places::anew_row(rt, alloc, words, text),
         "written" => arrays::written_row(rt, alloc, words, text),
         "filled" => arrays::filled_row(rt, alloc, words, text),
         "form" => circuits::form_row(rt, alloc, words, text),

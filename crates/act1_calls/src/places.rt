@@ -3,7 +3,8 @@ ghost use Rattle.act1_circuit.specs.Range.{InRange};
 
 use crate::arrays::device_of;
 use crate::circuits::circuit_from;
-use crate::input::number;
+use crate::input::{bytes_of, number};
+use crate::plans::plan_in;
 use act1_circuit::{Circuit, Spot};
 use act1_device::Device;
 use act1_place::{Gains, PlaceStop, Placement, place};
@@ -107,4 +108,52 @@ pub fn gains_row<R: Files>(rt: &R, alloc: Global, words: &[&str], text: &mut Str
     let target = device_of(rt, alloc, target)?;
     let column = u8::try_from(number(column)?).ok()?;
     add_column(alloc, &target, &circuit, number(seed)?, column, text)
+}
+
+// The next of the numbers that tell lists of spots apart.
+fn next_mark(mark: u64, spot: Spot) -> u64 {
+    (mark % 1_000_003 * 31 + u64::from(spot.row) * 64 + u64::from(spot.column)) % 1_000_003
+}
+
+// A number that tells lists of spots apart, mostly.
+fn mark_of(spots: &[Spot]) -> u64 {
+    let mut mark = 0;
+    for spot in spots {
+        mark = next_mark(mark, *spot);
+    }
+    mark
+}
+
+// Adds the sum of a circuit's placement, and the mark of its spots.
+fn add_anew(
+    alloc: Global,
+    device: &Device,
+    circuit: &Circuit,
+    seed: u64,
+    text: &mut String,
+) -> Option<()>
+    requires { InRange circuit.now }
+{
+    let gains = gains_of(alloc, device, circuit, seed)?;
+    writeln!(
+        text,
+        "total {} mark {}",
+        gains.total(),
+        mark_of(gains.spots())
+    )
+    .ok()
+}
+
+/// The row `anew DEVICE PLAN SEED`.
+pub fn anew_row<R: Files>(rt: &R, alloc: Global, words: &[&str], text: &mut String) -> Option<()> {
+    let [device, plan, seed] = words else {
+        return None;
+    };
+    let device = device_of(rt, alloc, device)?;
+    let bytes = bytes_of(rt, alloc, plan)?;
+    let plan = plan_in(alloc, &bytes).ok()?;
+    if !plan.legal(&device) {
+        return None;
+    }
+    add_anew(alloc, &device, &plan.placed.circuit, number(seed)?, text)
 }

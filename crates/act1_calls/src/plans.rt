@@ -5,8 +5,8 @@ use std::alloc::Global;
 use std::fmt::Write;
 use std::rt::Files;
 
-// The plan that the bytes spell, or why there is none.
-fn plan_in(alloc: Global, bytes: &[u8]) -> Result<Plan, PlanFault> {
+/// The plan that the bytes spell, or why there is none.
+pub fn plan_in(alloc: Global, bytes: &[u8]) -> Result<Plan, PlanFault> {
     if bytes.len() > 4_000_000_000 {
         return Err(PlanFault::Memory);
     }

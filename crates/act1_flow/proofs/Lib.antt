@@ -1,4 +1,3 @@
-pub mod ConstantArray
-pub mod NetFacts
-pub mod PortLists
-pub mod RailLists
+pub mod Assigned
+pub mod Circuits
+pub mod Counts

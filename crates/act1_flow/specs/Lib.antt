@@ -1,6 +1,3 @@
-pub mod Constant
-pub mod FileSteps
 pub mod Flow
-pub mod RailSteps
 pub mod Realizes
-pub mod StopWords
+pub mod Steps

@@ -2,12 +2,11 @@
 #![tactic(auto)]
 
 mod answer;
-mod constants;
-mod file;
-mod rails;
+mod assigning;
+mod laws;
+mod mapping;
+mod planning;
 mod stages;
-mod stop_line;
 
-pub use answer::{FlowStop, Routed};
+pub use answer::{FlowStop, Routed, Settings};
 pub use stages::flow;
-pub use stop_line::write_flow_stop;

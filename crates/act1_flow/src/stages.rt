@@ -1,27 +1,28 @@
-ghost use Rattle.act1_flow.specs.Constant.{IsConstant};
-ghost use Rattle.act1_flow.specs.Flow.{FlowGives};
+ghost use Rattle.std.specs.Prelude.{◌≡◌, ◌<◌, ◌≤◌, IfErr, IfOk, OnOk};
+ghost use Rattle.act1_flow.specs.Flow.{FlowGives, HasPads};
+ghost use Rattle.act1_flow.specs.Steps.{IsProgrammed, OnPads, flow_stop};
+ghost use Rattle.act1_emit.specs.File.{HasTracks};
 
-use crate::answer::{FlowStop, Routed};
-use crate::file::constant_file;
+use crate::answer::{FlowStop, Routed, Settings};
+use crate::assigning::{ChannelStop, all_tracks};
+use crate::laws::plan_laws;
+use crate::mapping::circuit_for;
+use crate::planning::{RoutedPlan, plan_for, routed};
+use act1_base::{Items, Memory};
 use act1_blif::{Blif, ports_are_few};
-use act1_device::Device;
-use act1_meaning::constants_mean;
+use act1_device::{Device, devices_are_small};
+use act1_emit::emit;
+use act1_plan::Plan;
+use act1_report::Report;
 use std::alloc::Global;
 
-/// Turns a netlist into an antifuse file for a device. The array of the file drives no wire twice,
-/// leaves nothing open, and is a circuit that means the netlist, in whatever order its modules fire,
-/// with at most as many modules as the netlist has literals and twice its latches.
-///
-/// Inputs and then outputs take the pads in order, one each. `FlowStop::Pads` comes exactly where
-/// the netlist has more of them than the device has pads. `FlowStop::Memory` is tied to no cause.
-///
-/// For now the netlist has no inputs and no latches, and its nodes have no inputs: each output is a
-/// constant, and no module is used.
-pub fn flow(alloc: Global, device: &Device, net: &Blif) -> Result<Routed, FlowStop>
-    requires { IsConstant net.now }
-    ensures { FlowGives device.now net.now result }
+// Whether there is a pad for each input and each output.
+fn find_pads(device: &Device, net: &Blif) -> Result<(), FlowStop>
+    ensures pads { OnOk result (HasPads device.now net.now) }
+    ensures stop { IfErr result (OnPads device.now net.now) }
 {
     ports_are_few();
+    devices_are_small();
     let needed = net.inputs.len() + net.outputs.len();
     let have = device.pads.len();
     if have < needed {
@@ -30,7 +31,72 @@ pub fn flow(alloc: Global, device: &Device, net: &Blif) -> Result<Routed, FlowSt
             have: have as u32,
         });
     }
-    constants_mean();
-    let fuses = constant_file(alloc, device, net)?;
-    Ok(Routed { fuses, modules: 0 })
+    Ok(())
+}
+
+// What the flow answers where a channel has no tracks.
+fn channel_stop(plan: Plan, stop: ChannelStop) -> FlowStop
+    ensures { result ≡ flow_stop plan stop }
+{
+    match stop {
+        ChannelStop::Refuted {
+            channel,
+            connections,
+            log,
+        } => FlowStop::Refuted {
+            report: Report { plan, channel, log },
+            connections,
+        },
+        ChannelStop::Spent {
+            channel,
+            conflicts,
+            tracks,
+            connections,
+        } => FlowStop::Spent {
+            plan,
+            channel,
+            conflicts,
+            tracks,
+            connections,
+        },
+        ChannelStop::Memory => FlowStop::Memory,
+    }
+}
+
+// The antifuse file of a plan that is routed and assigned, and how many modules it uses.
+fn programmed(
+    alloc: Global,
+    device: &Device,
+    routed: &RoutedPlan,
+    tracks: &[Items<u16>],
+) -> Result<Routed, Memory>
+    requires { HasTracks device.now routed.now.plan routed.now.routes.channels tracks.now }
+    ensures { IfOk result (IsProgrammed device.now routed.now.plan) }
+{
+    let fuses = emit(alloc, device, &routed.plan, &routed.routes, tracks)?;
+    let modules = routed.plan.placed.circuit.modules.len() as u16;
+    Ok(Routed { fuses, modules })
+}
+
+/// Turns a netlist into an antifuse file for a device, or says why there is none.
+pub fn flow(
+    alloc: Global,
+    device: &Device,
+    net: &Blif,
+    settings: &Settings,
+) -> Result<Routed, FlowStop>
+    requires low { 1 ≤ settings.now.k }
+    requires high { settings.now.k ≤ 64 }
+    requires budget { 0 < settings.now.budget }
+    ensures { FlowGives device.now net.now settings.now result }
+{
+    plan_laws();
+    find_pads(device, net)?;
+    let circuit = circuit_for(alloc, device, net)?;
+    let plan = plan_for(alloc, device, &circuit, settings)?;
+    let routed = routed(alloc, device, plan)?;
+    match all_tracks(alloc, device, &routed.plan, &routed.routes, settings.budget) {
+        Ok(tracks) => Ok(programmed(alloc, device, &routed, tracks.as_slice())?),
+        Err(stop) => Err(channel_stop(routed.plan, stop)),
+    }
 }

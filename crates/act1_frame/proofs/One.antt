@@ -59,10 +59,15 @@ module _ (before after : Shelf) (told : IsTrue before.tells) (wanted : Wanted) (
     same_found : (x y : X) → Found IsText before wanted x → Found IsText before wanted y → x ≡ y
     same_found x y f g = exact.one g.bytes x y (subst (λ (b : List ℕ). IsText b x) (one_read f.bytes g.bytes f.read g.read) f.text) g.text
 
-    -- a stage that reads a file allows one status where what follows it does
+    -- a stage that reads a file allows the same endings where what follows it does, if endings of one status are the same
+    pub one_by : (Same : Ending → Ending → Type 0) → ((e p : Ending) → e.status ≡ p.status → Same e p) → (Rest : X → Ending → Type 0)
+        → ((x : X) → Found IsText before wanted x → (e p : Ending) → Rest x e → Rest x p → Same e p) → (e p : Ending) → Reads IsText Refuses before after wanted Rest e → Reads IsText Refuses before after wanted Rest p → Same e p
+    one_by Same same Rest rest e p (inl h) (inl k) = same e p (same_stop e p h k)
+    one_by Same same Rest rest e p (inl h) (inr k) = elim (apart e k.0 h k.1) [ ]
+    one_by Same same Rest rest e p (inr h) (inl k) = elim (apart p h.0 k h.1) [ ]
+    one_by Same same Rest rest e p (inr h) (inr k) = rest h.0 h.1 e p h.2 (subst (λ (x : X). Rest x p) (same_found k.0 h.0 k.1 h.1) k.2)
+
+    -- so it allows one status
     pub one_of : (Rest : X → Ending → Type 0) → ((x : X) → Found IsText before wanted x → (e p : Ending) → Rest x e → Rest x p → e.status ≡ p.status)
         → (e p : Ending) → Reads IsText Refuses before after wanted Rest e → Reads IsText Refuses before after wanted Rest p → e.status ≡ p.status
-    one_of Rest rest e p (inl h) (inl k) = same_stop e p h k
-    one_of Rest rest e p (inl h) (inr k) = elim (apart e k.0 h k.1) [ ]
-    one_of Rest rest e p (inr h) (inl k) = elim (apart p h.0 k h.1) [ ]
-    one_of Rest rest e p (inr h) (inr k) = rest h.0 h.1 e p h.2 (subst (λ (x : X). Rest x p) (same_found k.0 h.0 k.1 h.1) k.2)
+    one_of = one_by (λ e p. e.status ≡ p.status) (λ e p h. h)

@@ -4,7 +4,7 @@ use Rattle.act1_outside.specs.Faults.{Rose}
 use Rattle.act1_outside.specs.Outside.{Shelf, Paper, SameHeld}
 use Rattle.act1_frame.specs.declared.ending.Ending.{Ending}
 use Rattle.act1_frame.specs.declared.ending.FileText.{FileText}
-use Rattle.act1_frame.specs.Clauses.{HasReadFault, HasLongFile, HasWriteFault, Answers, CausesAreAnswered, IsComplete, KeepsAllBut, KeepsWhatIsNotWritten}
+use Rattle.act1_frame.specs.Clauses.{AnswersChosen, HasReadFault, HasLongFile, HasWriteFault, Answers, CausesAreAnswered, IsComplete, KeepsAllBut, KeepsWhatIsNotWritten}
 use Rattle.act1_frame.specs.Leaving.{Says, Leaves, LeavesWith, LeavesFile, LeavesNothing, NowHolds, PrintsAll, WriteFailed, WriteFoundNoMemory, memory_text, write_fault_text}
 use Rattle.act1_frame.specs.Reading.{Wanted, OnlyRead}
 use Rattle.act1_frame.specs.World.{World}
@@ -141,12 +141,12 @@ module _ (writes : List (List ℕ)) (before : World) (result : ℕ) (after : Wor
   kept_but names e named (inl h) = kept_with names e.file e.text e.status named h
   kept_but names e named (inr h) = λ told n not_written. h.0 told n
 
-module _ (Usage : Type 0) (reads : List Wanted) (writes : List (List ℕ)) (writes_at : ℕ → List (List ℕ)) (May : Shelf → Shelf → Ending → Type 0) where
-  -- what a command owes: which endings it may have, that these stay where only files are written, that they have one status, and that what is written at a status is one of its files
+module _ (Usage : Type 0) (reads : List Wanted) (writes : List (List ℕ)) (writes_at : ℕ → List (List ℕ)) (Chosen : Ending → Type 0) (May : Shelf → Shelf → Ending → Type 0) where
+  -- what a command owes: which endings it may have, that these stay where only files are written, that they have one status unless it may choose between them, and that what is written at a status is one of its files
   pub record IsLawful : Type 0 where
     pub fine : (before after : Shelf) (e : Ending) → May before after e → IsFine Usage reads writes_at before after e
     pub later : (before mid after : Shelf) → ((n : List ℕ) → after.read_faults n ≡ mid.read_faults n) → (e : Ending) → May before mid e → May before after e
-    pub one : (before after : Shelf) → IsTrue before.tells → (HasReadFault reads before after → ⊥) → (e p : Ending) → May before after e → May before after p → e.status ≡ p.status
+    pub one : (before after : Shelf) → IsTrue before.tells → (HasReadFault reads before after → ⊥) → (e p : Ending) → May before after e → May before after p → (e.status ≡ p.status) ⊎ (Chosen e × Chosen p)
     pub named : (status : ℕ) (name : List ℕ) → Contains (writes_at status) name → Contains writes name
 
   module _ (lawful : IsLawful) (before : World) (result : ℕ) (after : World) (e : Ending) (may : May before.shelf after.shelf e) (leaves : Leaves e before.shelf before.paper result after.shelf after.paper) where
@@ -162,8 +162,12 @@ module _ (Usage : Type 0) (reads : List Wanted) (writes : List (List ℕ)) (writ
     pub status_at : (n : ℕ) → n ≢ 3 → n ≢ 15 → result ≡ n → e.status ≡ n
     status_at n three fifteen h = status_is writes before result after e.status n three fifteen answer h
 
-    pub causes : CausesAreAnswered May reads writes before result after
-    causes told no_fault p other = subst (λ (n : ℕ). Answers n writes before result after) (lawful.one before.shelf after.shelf told no_fault e p may other) answer
+    pub causes : CausesAreAnswered Chosen May reads writes before result after
+    causes told no_fault p other = by (lawful.one before.shelf after.shelf told no_fault e p may other)
+      where
+        by : (e.status ≡ p.status) ⊎ (Chosen e × Chosen p) → Answers p.status writes before result after ⊎ (Chosen p × AnswersChosen Chosen May writes before result after)
+        by (inl same) = inl (subst (λ (n : ℕ). Answers n writes before result after) same answer)
+        by (inr h) = inr (h.1, (e, may, h.0, answer))
 
     pub is_complete : IsComplete May writes before result after
     is_complete = complete writes before result after May e may answer

@@ -30,11 +30,15 @@ HasWriteFault writes before after =
 abbrev pub Answers : ℕ → List (List ℕ) → World → ℕ → World → Type 0
 Answers status writes before result after = (result ≡ status) ⊎ (((result ≡ 3) × HasWriteFault writes before after) ⊎ (result ≡ 15))
 
--- Where the object tells its content and no read failed: a cause that stands is answered. There is one status that the words and files allow, whatever the program does.
-abbrev pub CausesAreAnswered : (Shelf → Shelf → Ending → Type 0) → List Wanted → List (List ℕ) → World → ℕ → World → Type 0
-CausesAreAnswered May reads writes before result after =
+-- one of the endings between which the command may choose is answered
+abbrev pub AnswersChosen : (Ending → Type 0) → (Shelf → Shelf → Ending → Type 0) → List (List ℕ) → World → ℕ → World → Type 0
+AnswersChosen Chosen May writes before result after = (e : Ending) × May before.shelf after.shelf e × Chosen e × Answers e.status writes before result after
+
+-- Where the object tells its content and no read failed: a cause that stands is answered. There is one status that the words and files allow, whatever the program does; but where the ending is one of those between which the command may choose, one of these is answered.
+abbrev pub CausesAreAnswered : (Ending → Type 0) → (Shelf → Shelf → Ending → Type 0) → List Wanted → List (List ℕ) → World → ℕ → World → Type 0
+CausesAreAnswered Chosen May reads writes before result after =
     IsTrue before.shelf.tells → (HasReadFault reads before.shelf after.shelf → ⊥) → (e : Ending) → May before.shelf after.shelf e
-    → Answers e.status writes before result after
+    → Answers e.status writes before result after ⊎ (Chosen e × AnswersChosen Chosen May writes before result after)
 
 -- where no fault of writing was counted and no cause of another status stands, the status is 0 or 15
 abbrev pub IsComplete : (Shelf → Shelf → Ending → Type 0) → List (List ℕ) → World → ℕ → World → Type 0

@@ -1,6 +1,8 @@
 pub mod CoverSteps
 pub mod Laws
 pub mod Least
+pub mod Map
+pub mod MapSteps
 pub mod Mapped
 pub mod Meaning
 pub mod Own

@@ -15,8 +15,8 @@ pub struct Covered {
     pub cover: Tiles,
 }
 
-// The forest and the tiles of a node.
-fn cover_node(alloc: Global, node: &Node) -> Result<Covered, Memory>
+/// The forest and the tiles of a node. The one error is `Memory`.
+pub fn cover_node(alloc: Global, node: &Node) -> Result<Covered, Memory>
     ensures { IfOk result (IsCovered node.now) }
 {
     let forest = forest_of(alloc, &node.cover)?;

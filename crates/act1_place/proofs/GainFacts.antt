@@ -1,6 +1,8 @@
 -- What gains keep from the start, and what they need of it.
 use Rattle.std.proofs.Common.{ℕ, zero, suc, ◌≡◌, ◌+◌, ◌*◌, ◌<◌, ◌≤◌, List, [], ◌∷◌, length, get_or, Option, Some, None, refl, sym, ap, subst, ◌∙◌, arith, replicate}
 use Rattle.std.specs.Prelude.{filter, slice_get, slice_set, All, IfSome}
+use Rattle.std.proofs.lemmas.Bool.{false≢true}
+use Rattle.std.proofs.lemmas.List.Elements.{All-nil}
 use Rattle.std.proofs.lemmas.Option.{slice_get-get_or}
 use Rattle.act1_base.proofs.ListGets.{some_is, get_within}
 use Rattle.act1_device.specs.declared.device.Device.{Device}
@@ -8,9 +10,12 @@ use Rattle.act1_circuit.specs.declared.circuit.Circuit.{Circuit}
 use Rattle.act1_circuit.specs.declared.circuit.Spot.{Spot}
 use Rattle.act1_circuit.specs.Range.{InRange}
 use Rattle.act1_place.specs.declared.net.Joins.{Joins}
-use Rattle.act1_place.specs.Gains.{IsInside, AreNets, AreNumbers, AreTouching, AreAt, IsKept}
+use Rattle.act1_place.specs.Gains.{IsInside, AreNets, AreTouching, AreAt, AreItsNets, IsKept, listed_at}
+use Rattle.act1_place.specs.Ends.{AreAllEnds, AreRenewed}
 use Rattle.act1_place.specs.Kept.{all_joins, touches, Occupies}
-use Rattle.act1_place.proofs.Growing.{numbers_read}
+use Rattle.act1_place.specs.Passes.{exchange}
+use Rattle.act1_place.specs.declared.ends.Ends.{Ends}
+use Rattle.act1_place.proofs.ChangeSums.{ends_exchanged}
 use Rattle.act1_place.proofs.NetFinds.{nets_fit}
 use Rattle.act1_place.proofs.SiteFacts.{number_below, AreAtSoFar, at_more, at_none}
 
@@ -49,10 +54,16 @@ module _ (dev : Device) (c : Circuit) (range : InRange c) (spots : List Spot) (e
   pub new_keeps : (touching : List (List ℕ)) (at : List (Option ℕ)) (count : ℕ) (kept : List Spot) → count ≡ length spots → AreTouching count nets touching → AreAt dev.rows dev.columns spots at → kept ≡ spots
       → IsKept dev.rows dev.columns nets touching kept at
   new_keeps touching at count kept count_is touched at_are kept_is = record {
+    few = let most = range.few_modules in omega (arith, most, each, ap length kept_is);
     nets_are = subst (AreNets (length kept)) (sym nets_are) (nets_fit dev c range (length kept) (ap length kept_is ∙ each));
     touched = subst (λ (n : ℕ). AreTouching n nets touching) (count_is ∙ sym (ap length kept_is)) touched;
     at_are = subst (λ (ss : List Spot). AreAt dev.rows dev.columns ss at) (sym kept_is) at_are;
   }
+
+-- no module joins no net
+none_touched : (nets : List Joins) → [] ≡ filter (touches None) nets
+none_touched [] = refl
+none_touched (n ∷ ns) = none_touched ns
 
 -- what is found at a site
 module _ (rows columns : ℕ) (nets : List Joins) (touching : List (List ℕ)) (spots : List Spot) (at : List (Option ℕ)) (kept : IsKept rows columns nets touching spots at) where
@@ -76,13 +87,21 @@ module _ (rows columns : ℕ) (nets : List Joins) (touching : List (List ℕ)) (
       found_there s (get_or at number None) (kept.at_are.each s (get_or at number None) inside there)
 
   -- the numbers of a module's nets
-  pub kept_numbers : (m : ℕ) (numbers : List ℕ) → m < length spots → numbers ≡ get_or touching m numbers → AreNumbers nets m numbers
-  kept_numbers m numbers low is = let each = kept.touched.each in numbers_read (length spots) nets touching m numbers kept.touched (omega (arith, low, each)) is
+  pub its_nets : (m : Option ℕ) → IfSome m (λ m. m < length spots) → AreItsNets nets (listed_at touching m) m × (length (listed_at touching m) ≤ 131070)
+  its_nets None low = (record { touched = none_touched nets; listed = All-nil (λ i. i < length nets); all = λ i within e. absurd (false≢true e) }, omega arith)
+  its_nets (Some m) low =
+      let each = kept.touched.each in
+      let h = kept.touched.numbers m (listed_at touching (Some m)) (slice_get-get_or touching m [] (omega (arith, low, each))) in
+      let short = h.short in
+      let few = kept.nets_are.few in
+      (record { touched = h.touched; listed = h.listed; all = h.all }, omega (arith, short, few))
 
--- no module joins no net
-pub none_touched : (nets : List Joins) (m : Option ℕ) → m ≡ None → [] ≡ filter (touches m) nets
-none_touched nets m e = none nets ∙ ap (λ (o : Option ℕ). filter (touches o) nets) (sym e)
-  where
-    none : (ns : List Joins) → [] ≡ filter (touches None) ns
-    none [] = refl
-    none (n ∷ ns) = none ns
+-- what is kept after an exchange, the ends too
+pub all_exchanged : (rows columns : ℕ) (nets : List Joins) (touching : List (List ℕ)) (spots : List Spot) (at : List (Option ℕ)) (ends : List Ends) → IsKept rows columns nets touching spots at → AreAllEnds nets spots ends → (a b : Spot) (m o : Option ℕ) → Occupies spots a m → Occupies spots b o
+    → (after : List Spot) → after ≡ exchange a b spots → (mid new : List Ends) → AreRenewed nets after (listed_at touching m) ends mid → AreRenewed nets after (listed_at touching o) mid new → AreAllEnds nets after new
+all_exchanged rows columns nets touching spots at ends kept are a b m o at_a at_b after is mid new one two =
+    subst (λ (ss : List Spot). AreAllEnds nets ss new) (sym is)
+    (ends_exchanged rows columns nets touching spots at ends kept are a b m o at_a at_b (listed_at touching m) (listed_at touching o)
+    (its_nets rows columns nets touching spots at kept m (found_there rows columns nets touching spots at kept a m at_a)).0
+    (its_nets rows columns nets touching spots at kept o (found_there rows columns nets touching spots at kept b o at_b)).0
+    mid new (subst (λ (ss : List Spot). AreRenewed nets ss (listed_at touching m) ends mid) is one) (subst (λ (ss : List Spot). AreRenewed nets ss (listed_at touching o) mid new) is two))

@@ -1,8 +1,7 @@
 -- Rows, sites and nets, as they grow.
-use Rattle.std.proofs.Common.{ℕ, ◌≡◌, ◌+◌, ◌<◌, List, [], ◌∷◌, ◌++◌, length, map, get_or, Some, sym, ap, ◌∙◌, append_assoc}
+use Rattle.std.proofs.Common.{ℕ, ◌≡◌, ◌+◌, List, [], ◌∷◌, ◌++◌, map, sym, ap, ◌∙◌, append_assoc}
 use Rattle.std.specs.Prelude.{flat_map}
 use Rattle.std.proofs.lemmas.List.{map_push, flat_map_more}
-use Rattle.std.proofs.lemmas.Option.{slice_get-get_or}
 use Rattle.act1_device.specs.declared.device.Device.{Device}
 use Rattle.act1_circuit.specs.declared.circuit.Circuit.{Circuit}
 use Rattle.act1_circuit.specs.declared.circuit.Source.{Source}
@@ -11,7 +10,6 @@ use Rattle.act1_circuit.specs.declared.circuit.Spot.{Spot}
 use Rattle.act1_plan.specs.Lists.{numbers}
 use Rattle.act1_plan.proofs.OrderLoops.{numbers_more}
 use Rattle.act1_place.specs.declared.net.Joins.{Joins}
-use Rattle.act1_place.specs.Gains.{AreNumbers, AreTouching}
 use Rattle.act1_place.specs.Kept.{joins_of}
 use Rattle.act1_place.specs.Passes.{row_of, sites_of}
 
@@ -40,7 +38,3 @@ module _ (dev : Device) (c : Circuit) where
       ∙ ap (λ (ss : List Source). map (joins_of dev c) (ins ++ ss)) (map_push Module (numbers 0 n) n)
       ∙ ap (map (joins_of dev c)) (sym (append_assoc ins (map Module (numbers 0 n)) (Module n ∷ [])))
       ∙ map_push (joins_of dev c) (ins ++ map Module (numbers 0 n)) (Module n))
-
--- the list of a module's nets, where it is read
-pub numbers_read : (count : ℕ) (nets : List Joins) (touching : List (List ℕ)) (m : ℕ) (numbers : List ℕ) → AreTouching count nets touching → m < length touching → numbers ≡ get_or touching m numbers → AreNumbers nets m numbers
-numbers_read count nets touching m numbers h low is = h.numbers m numbers (slice_get-get_or touching m numbers low ∙ ap (λ (ns : List ℕ). Some ns) (sym is))

@@ -94,7 +94,7 @@ sum_map f g [] = refl
 sum_map f g (x ∷ xs) = omega (arith, sum_by-cons f (g x) (map g xs), sum_by-cons (λ x. f (g x)) x xs, sum_map f g xs)
 
 -- a net that doesn't join the module keeps its half perimeter
-untouched : (spots : List Spot) (m : ℕ) (to : Spot) (ms : List ℕ) → list_any (λ k. k == m) ms ≡ false
+pub untouched : (spots : List Spot) (m : ℕ) (to : Spot) (ms : List ℕ) → list_any (λ k. k == m) ms ≡ false
     → map (λ k. place_of (spot_of spots k)) ms ≡ map (λ k. place_of (spot_of (slice_set spots m to) k)) ms
 untouched spots m to [] e = refl
 untouched spots m to (k ∷ ms) e = from (k == m) refl e (λ q. untouched spots m to ms q)

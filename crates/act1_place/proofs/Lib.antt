@@ -1,5 +1,7 @@
+pub mod ChangeSums
 pub mod Distinct
 pub mod Elements
+pub mod EndsSteps
 pub mod GainFacts
 pub mod GainSteps
 pub mod Growing
@@ -11,10 +13,10 @@ pub mod PadFacts
 pub mod PassLaws
 pub mod PassSteps
 pub mod PlaceSteps
+pub mod Seen
 pub mod Shuffles
 pub mod SiteFacts
 pub mod SourceFacts
 pub mod Spans
 pub mod Starts
-pub mod SumSteps
 pub mod TotalSteps

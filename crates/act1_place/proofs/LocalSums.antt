@@ -81,7 +81,17 @@ module _ (spots : List Spot) (a b : Spot) (m o : Option ℕ) (apart : AllPairs (
       let y = not_joined o k ms ps h in
       ap (λ (s : Spot). place_of s ∷ map (λ k. place_of (spot_of spots k)) ms) (sym (stays k x.0 y.0)) ∙ ap (λ (qs : List Place). place_of (spot_of (exchange a b spots) k) ∷ qs) (same_places ms ps x.1 y.1)
 
-  kept_sum : (n : Joins) → (touches m n || touches o n) ≡ false → net_sum spots n ≡ net_sum (exchange a b spots) n
+  pub same_each : {X : Type 0} (f : ℕ → Spot → X) (ms : List ℕ) (ps : List Place) → touches m (record { modules = ms; pads = ps }) ≡ false → touches o (record { modules = ms; pads = ps }) ≡ false
+      → map (λ k. f k (spot_of spots k)) ms ≡ map (λ k. f k (spot_of (exchange a b spots) k)) ms
+  same_each f [] ps e h = refl
+  same_each f (k ∷ ms) ps e h =
+      let x = not_joined m k ms ps e in
+      let y = not_joined o k ms ps h in
+      let same = stays k x.0 y.0 in
+      let rest = same_each f ms ps x.1 y.1 in
+      λ i. f k (sym same i) ∷ rest i
+
+  pub kept_sum : (n : Joins) → (touches m n || touches o n) ≡ false → net_sum spots n ≡ net_sum (exchange a b spots) n
   kept_sum n e = let parts = or_parts (touches m n) (touches o n) e in ap (λ (qs : List Place). half_perimeter (qs ++ n.pads)) (same_places n.modules n.pads parts.0 parts.1)
 
   pub local : (nets : List Joins) → kept_total nets spots + touched_sum (net_sum (exchange a b spots)) m o nets ≡ kept_total nets (exchange a b spots) + touched_sum (net_sum spots) m o nets

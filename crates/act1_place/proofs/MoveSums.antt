@@ -44,7 +44,7 @@ module _ (spots : List Spot) (m : ℕ) (to : Spot) (low : m < length spots) (n :
       map-append (λ (p : Place). p.y) (map (λ k. place_of (spot_of moved k)) n.modules) n.pads
       ∙ ap (λ (xs : List ℕ). xs ++ map (λ (p : Place). p.y) n.pads) (map_twice (λ (p : Place). p.y) (λ k. place_of (spot_of moved k)) n.modules ∙ all_set (λ (s : Spot). 2 * s.row + 1) spots m to low n.modules)
 
-  net_set : net_sum (slice_set spots m to) n ≡ spread (columns_with spots m to.column n) + spread (heights_with spots m to.row n)
+  pub net_set : net_sum (slice_set spots m to) n ≡ spread (columns_with spots m to.column n) + spread (heights_with spots m to.row n)
   net_set = λ i. spread (columns_are i) + spread (heights_are i)
 
 set_itself : (spots : List Spot) (m : ℕ) → slice_set spots m (spot_of spots m) ≡ spots
@@ -107,7 +107,7 @@ moves_are_by_sums_law nets spots m o b a low_m low_o other none =
     omega (arith, first, second, now, then_there)
 
 -- exchanges of what shares no net
-spot_is : (spots : List Spot) (m : ℕ) (a : Spot) → slice_get spots m ≡ Some a → spot_of spots m ≡ a
+pub spot_is : (spots : List Spot) (m : ℕ) (a : Spot) → slice_get spots m ≡ Some a → spot_of spots m ≡ a
 spot_is spots m a e = get_or_from_slice_get spots m a (record { row = 0; column = 0 }) e
 
 absent : (spots : List Spot) (a b : Spot) → Occupies spots a None → Occupies spots b None → (k : ℕ) (s : Spot) → slice_get spots k ≡ Some s → (s ≢ a) × (s ≢ b)

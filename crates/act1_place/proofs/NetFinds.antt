@@ -1,8 +1,9 @@
 -- What the nets of a circuit join, found module by module and output by output.
 use Rattle.std.proofs.Common.{ℕ, zero, suc, ◌≡◌, ◌+◌, ◌<◌, ◌≤◌, ◌^◌, Bool, true, false, cond, List, [], ◌∷◌, ◌++◌, length, map, take, drop, get_or, Some, ◌⊎◌, inl, inr, refl, sym, ap, subst, ◌∙◌, arith, append_assoc, append-nil, drop-cons, add-one}
 use Rattle.std.specs.Prelude.{filter, All, Contains, slice_get}
-use Rattle.std.proofs.lemmas.List.{length-map, length-append, map-append, take_all}
-use Rattle.std.proofs.lemmas.List.Elements.{All-nil, All-cons, All-append, All-map, All-weaker, All-contains_itself, All-push, filter_more}
+use Rattle.std.proofs.lemmas.Bool.{cases_eq, false≢true}
+use Rattle.std.proofs.lemmas.List.{length-map, length-append, map-append, take_all, get_or_read}
+use Rattle.std.proofs.lemmas.List.Elements.{All-nil, All-cons, All-append, All-map, All-weaker, All-contains_itself, All-push, filter_more, Contains-append_left as append_left, Contains-append_right as append_right}
 use Rattle.std.proofs.lemmas.List.Sums.{length-filter, count_by-le-length}
 use Rattle.act1_device.specs.declared.device.Device.{Device}
 use Rattle.act1_circuit.specs.declared.circuit.Circuit.{Circuit}
@@ -19,7 +20,7 @@ use Rattle.act1_place.specs.NetSteps.{drives, driven_pads}
 use Rattle.act1_place.specs.Perimeter.{End, output_ends, pad_place, nets_of}
 use Rattle.act1_place.specs.declared.net.Joins.{Joins}
 use Rattle.act1_place.specs.declared.net.Place.{Place}
-use Rattle.act1_place.proofs.Elements.{number_in}
+use Rattle.act1_place.proofs.Elements.{number_in, here as first_one}
 
 -- one module more
 
@@ -156,9 +157,10 @@ pub record IsTouching (nets : List Joins) (m n : ℕ) (numbers : List ℕ) : Typ
   pub is : map (net_at nets) numbers ≡ filter (joins m) (take n nets)
   pub listed : All (λ i. i < length nets) numbers
   pub short : length numbers ≤ n
+  pub all : (i : ℕ) → i < n → joins m (net_at nets i) ≡ true → Contains numbers i
 
 pub touching_first : (nets : List Joins) (m : ℕ) → IsTouching nets m 0 []
-touching_first nets m = record { is = refl; listed = All-nil (λ i. i < length nets); short = omega arith }
+touching_first nets m = record { is = refl; listed = All-nil (λ i. i < length nets); short = omega arith; all = λ i low. absurd (omega (arith, low)) }
 
 module _ (nets : List Joins) (m n : ℕ) (numbers : List ℕ) (net : Joins) (low : n < length nets) (net_is : net ≡ get_or nets n net) (h : IsTouching nets m n numbers) where
   next : (b : Bool) → joins m net ≡ b → filter (joins m) (take (n + 1) nets) ≡ filter (joins m) (take n nets) ++ cond b (net ∷ []) []
@@ -172,8 +174,13 @@ module _ (nets : List Joins) (m n : ℕ) (numbers : List ℕ) (net : Joins) (low
     is = map-append (net_at nets) numbers (n ∷ []) ∙ (λ i. h.is i ++ here i ∷ []) ∙ sym (next true e);
     listed = All-push (λ i. i < length nets) numbers n h.listed low;
     short = let s = h.short in let long = length-append numbers (n ∷ []) in omega (arith, s, long);
+    all = λ i within k. from i within k (cases_eq i n);
   }
     where
+      from : (i : ℕ) → i < n + 1 → joins m (net_at nets i) ≡ true → (i ≡ n) ⊎ (i ≡ n → ⊥) → Contains (numbers ++ n ∷ []) i
+      from i within k (inl same) = append_right numbers (n ∷ []) i (first_one i n [] (sym same))
+      from i within k (inr other) = append_left numbers (n ∷ []) i (h.all i (omega (arith, within, other)) k)
+
       here : net_at nets n ≡ net
       here = get_or_same nets n net (record { modules = []; pads = [] }) low ∙ sym net_is
         where
@@ -182,18 +189,27 @@ module _ (nets : List Joins) (m n : ℕ) (numbers : List ℕ) (net : Joins) (low
           get_or_same (y ∷ xs) zero x d k = refl
           get_or_same (y ∷ xs) (suc i) x d k = get_or_same xs i x d (omega (arith, k))
 
+  here_at : net_at nets n ≡ net
+  here_at = sym (get_or_read nets n net low net_is (record { modules = []; pads = [] }))
+
   pub touching_skip : joins m net ≡ false → IsTouching nets m (n + 1) numbers
   touching_skip e = record {
     is = h.is ∙ sym (next false e ∙ append-nil (filter (joins m) (take n nets)));
     listed = h.listed;
     short = let s = h.short in omega (arith, s);
+    all = λ i within k. from i within k (cases_eq i n);
   }
+    where
+      from : (i : ℕ) → i < n + 1 → joins m (net_at nets i) ≡ true → (i ≡ n) ⊎ (i ≡ n → ⊥) → Contains numbers i
+      from i within k (inl same) = absurd (false≢true (sym e ∙ sym (ap (joins m) here_at) ∙ sym (ap (λ (j : ℕ). joins m (net_at nets j)) same) ∙ k))
+      from i within k (inr other) = h.all i (omega (arith, within, other)) k
 
 pub touching_done : (nets : List Joins) (m n : ℕ) (numbers : List ℕ) → length nets ≤ n → n ≤ length nets → IsTouching nets m n numbers → AreNumbers nets m numbers
 touching_done nets m n numbers all few h = record {
   touched = h.is ∙ ap (filter (joins m)) (take_all n nets all);
   listed = h.listed;
   short = let s = h.short in omega (arith, s, few);
+  all = λ i low. h.all i (omega (arith, low, all));
 }
 
 -- the lists of the modules so far

@@ -49,12 +49,12 @@ occupies_moved spots a b s None h = λ k e.
     let same : t.0 ≡ s = sym (moved_twice a b t.0) ∙ ap (moved a b) t.2 ∙ moved_twice a b s in
     h k (t.1 ∙ ap (λ (u : Spot). Some u) same)
 
-get_set : {A : Type 0} (xs : List A) (i : ℕ) (x : A) → i < length xs → slice_get (slice_set xs i x) i ≡ Some x
+pub get_set : {A : Type 0} (xs : List A) (i : ℕ) (x : A) → i < length xs → slice_get (slice_set xs i x) i ≡ Some x
 get_set [] i x h = absurd (omega (arith, h))
 get_set (y ∷ xs) zero x h = refl
 get_set (y ∷ xs) (suc i) x h = get_set xs i x (omega (arith, h))
 
-get_unset : {A : Type 0} (xs : List A) (i j : ℕ) (x : A) → i ≢ j → slice_get (slice_set xs i x) j ≡ slice_get xs j
+pub get_unset : {A : Type 0} (xs : List A) (i j : ℕ) (x : A) → i ≢ j → slice_get (slice_set xs i x) j ≡ slice_get xs j
 get_unset [] i j x h = refl
 get_unset (y ∷ xs) zero zero x h = absurd (h refl)
 get_unset (y ∷ xs) zero (suc j) x h = refl
@@ -237,6 +237,7 @@ kept_exchanged rows columns nets touching spots at kept a b in_a in_b m o at_a a
     let count : length spots ≡ length second = sym (ap length is ∙ length-map spots (moved a b)) in
     let moved_at = at_exchanged rows columns spots at kept.at_are a b in_a in_b m o at_a at_b in (
       record {
+        few = subst (λ (n : ℕ). n ≤ 65535) count kept.few;
         nets_are = subst (λ (n : ℕ). AreNets n nets) count kept.nets_are;
         touched = subst (λ (n : ℕ). AreTouching n nets touching) count kept.touched;
         at_are = subst (λ (ss : List Spot). AreAt rows columns ss two) (sym is) (subst (AreAt rows columns (exchange a b spots)) (sym at_is) moved_at);

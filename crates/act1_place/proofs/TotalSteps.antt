@@ -6,15 +6,12 @@ use Rattle.std.proofs.lemmas.List.Sums.{sum_by-append, sum_by-cons}
 use Rattle.act1_circuit.specs.declared.circuit.Spot.{Spot}
 use Rattle.act1_place.specs.declared.net.Joins.{Joins}
 use Rattle.act1_place.specs.Kept.{net_sum, kept_total}
-use Rattle.act1_place.specs.Passes.{exchange}
-use Rattle.act1_place.proofs.PassLaws.{exchange_same}
 
 -- one net more
-pub total_next : (nets : List Joins) (spots : List Spot) (a : Spot) (i total hp : ℕ) (net : Joins) → i < length nets → net ≡ get_or nets i net → hp ≡ net_sum (exchange a a spots) net → total ≡ kept_total (take i nets) spots
+pub total_next : (nets : List Joins) (spots : List Spot) (i total hp : ℕ) (net : Joins) → i < length nets → net ≡ get_or nets i net → hp ≡ net_sum spots net → total ≡ kept_total (take i nets) spots
     → total + hp ≡ kept_total (take (i + 1) nets) spots
-total_next nets spots a i total hp net low is h e =
+total_next nets spots i total hp net low is h e =
     let f : Joins → ℕ = net_sum spots in
-    let one : hp ≡ f net = h ∙ ap (λ (ss : List Spot). net_sum ss net) (exchange_same a spots) in
     let more : take (i + 1) nets ≡ take i nets ++ net ∷ [] = take_more nets i net low ∙ ap (λ (x : Joins). take i nets ++ x ∷ []) (sym is) in
     let sum : sum_by f (take (i + 1) nets) ≡ sum_by f (take i nets) + sum_by f (net ∷ []) = ap (sum_by f) more ∙ sum_by-append f (take i nets) (net ∷ []) in
-    omega (arith, e, sum, sum_by-cons f net [], one)
+    omega (arith, e, sum, sum_by-cons f net [], h)

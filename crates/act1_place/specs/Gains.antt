@@ -1,8 +1,8 @@
 -- Sums of half perimeters that are kept while modules change places.
-use Rattle.std.specs.Prelude.{ℕ, Bool, true, false, map, fold, ◌≡◌, ◌≢◌, ◌+◌, ◌*◌, ◌<◌, ◌≤◌, ◌^◌, List, length, slice_get, slice_set, Option, Some, None, All, AllPairs}
+use Rattle.std.specs.Prelude.{ℕ, Bool, true, false, [], map, fold, ◌≡◌, ◌≢◌, ◌+◌, ◌*◌, ◌<◌, ◌≤◌, ◌^◌, List, length, slice_get, slice_index_or, slice_set, Option, Some, None, All, AllPairs, Contains}
 use Rattle.act1_circuit.specs.declared.circuit.Spot.{Spot}
 use Rattle.act1_place.specs.declared.net.Joins.{Joins}
-use Rattle.act1_place.specs.Kept.{Occupies, AreTouched, kept_total}
+use Rattle.act1_place.specs.Kept.{Occupies, AreTouched, kept_total, net_at, touches}
 use Rattle.act1_place.specs.Passes.{step_by, pass_by, passes_by}
 
 -- what contracts see: the rows and columns of the device, the nets, and where each module stands
@@ -16,11 +16,27 @@ pub record Kept : Type 0 where
 abbrev pub IsInside : ℕ → ℕ → Spot → Type 0
 IsInside rows columns s = (s.row < rows) × (s.column < columns)
 
+-- each net that joins the module, if there is one, has its number among these
+abbrev pub HasAll : List Joins → List ℕ → Option ℕ → Type 0
+HasAll nets numbers m = (i : ℕ) → i < length nets → touches m (net_at nets i) ≡ true → Contains numbers i
+
 -- the numbers are those of the nets that join the module
 pub record AreNumbers (nets : List Joins) (m : ℕ) (numbers : List ℕ) : Type 0 where
   pub touched : AreTouched nets numbers (Some m)
   pub listed : All (λ i. i < length nets) numbers
   pub short : length numbers ≤ length nets
+  pub all : HasAll nets numbers (Some m)
+
+-- the numbers are those of the nets that join the module, if there is one
+pub record AreItsNets (nets : List Joins) (numbers : List ℕ) (m : Option ℕ) : Type 0 where
+  pub touched : AreTouched nets numbers m
+  pub listed : All (λ i. i < length nets) numbers
+  pub all : HasAll nets numbers m
+
+-- the list of the module, if there is one
+abbrev pub listed_at : List (List ℕ) → Option ℕ → List ℕ
+listed_at touching None = []
+listed_at touching (Some m) = slice_index_or touching m []
 
 -- the lists name, for each of so many modules, the nets that join it
 pub record AreTouching (count : ℕ) (nets : List Joins) (touching : List (List ℕ)) : Type 0 where
@@ -44,6 +60,7 @@ pub record AreAt (rows columns : ℕ) (spots : List Spot) (at : List (Option ℕ
 
 -- what is kept
 pub record IsKept (rows columns : ℕ) (nets : List Joins) (touching : List (List ℕ)) (spots : List Spot) (at : List (Option ℕ)) : Type 0 where
+  pub few : length spots ≤ 65535
   pub nets_are : AreNets (length spots) nets
   pub touched : AreTouching (length spots) nets touching
   pub at_are : AreAt rows columns spots at

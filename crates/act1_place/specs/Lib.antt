@@ -1,3 +1,4 @@
+pub mod Ends
 pub mod Gains
 pub mod Kept
 pub mod Laws

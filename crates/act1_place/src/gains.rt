@@ -2,14 +2,17 @@ ghost use Rattle.std.specs.Prelude.{◌≡◌, ◌≢◌, ◌<◌, ◌≤◌, �
 ghost use Rattle.act1_circuit.specs.declared.circuit.Spot.{Spot as ASpot};
 ghost use Rattle.act1_circuit.specs.Range.{InRange};
 ghost use Rattle.act1_plan.specs.Order.{AreSites};
-ghost use Rattle.act1_place.specs.Gains.{IsInside, AreAt, put};
-ghost use Rattle.act1_place.specs.Kept.{all_joins, kept_total, Occupies, AreTouched};
+ghost use Rattle.act1_place.specs.Gains.{IsInside, AreAt, AreItsNets, listed_at, put};
+ghost use Rattle.act1_place.specs.Kept.{all_joins, kept_total, Occupies};
 ghost use Rattle.act1_place.specs.Passes.{exchange};
 ghost use Rattle.act1_place.specs.Place.{HasPads};
 
+use crate::changes::{change_of, number_of};
+use crate::ends::Ends;
 use crate::net::Joins;
 use crate::nets::{nets_of, touching_of};
-use crate::sums::{gain_of, total_of};
+use crate::reaches::{all_ends, renew};
+use crate::sums::total_of;
 use act1_base::{Items, Memory};
 use act1_circuit::{Circuit, Spot};
 use act1_device::{Device, devices_are_small};
@@ -28,16 +31,19 @@ pub struct Gains {
     spots: Items<Spot>,
     // which module stands at each site, by row and then column
     at: Items<Option<u16>>,
+    // how far each net reaches, renewed where an exchange moves one of its modules
+    ends: Items<Ends>,
 }
 
 impl Model for Gains {
+    ghost use Rattle.act1_place.specs.Ends.{AreAllEnds};
     ghost use Rattle.act1_place.specs.Gains.{Kept, IsKept};
 
     ghost Value = { Kept };
 
     ghost view = { λ g. record { rows = g.rows; columns = g.columns; nets = g.nets; spots = g.spots } };
 
-    ghost invariant = { λ g. IsKept g.rows g.columns g.nets g.touching g.spots g.at };
+    ghost invariant = { λ g. IsKept g.rows g.columns g.nets g.touching g.spots g.at × AreAllEnds g.nets g.spots g.ends };
 }
 
 // The number of a site among those of rows of so many columns.
@@ -79,6 +85,17 @@ fn put(spots: &mut Items<Spot>, module: Option<u16>, to: Spot)
     }
 }
 
+// The list of the module, if there is one.
+fn listed_at(touching: &[Items<u32>], module: Option<u16>) -> &[u32]
+    requires { IfSome «module» (λ m. m < length touching.now) }
+    ensures { result.now ≡ listed_at touching.now «module» }
+{
+    match module {
+        Some(module) => touching[usize::from(module)].as_slice(),
+        None => &[],
+    }
+}
+
 impl Gains {
     // Which module stands at the site.
     fn module_at(&self, site: Spot) -> Option<u16>
@@ -92,14 +109,10 @@ impl Gains {
     // The numbers of the nets that join the module, if there is one.
     fn nets_at(&self, module: Option<u16>) -> &[u32]
         requires { IfSome «module» (λ m. m < length self.now.spots) }
-        ensures touched { AreTouched self.now.nets result.now «module» }
-        ensures listed { All (λ i. i < length self.now.nets) result.now }
+        ensures nets { AreItsNets self.now.nets result.now «module» }
         ensures short { length result.now ≤ 131070 }
     {
-        match module {
-            Some(module) => self.touching.as_slice()[usize::from(module)].as_slice(),
-            None => &[],
-        }
+        listed_at(self.touching.as_slice(), module)
     }
 
     /// The sums of a circuit whose modules stand at these spots, one for each.
@@ -121,6 +134,7 @@ impl Gains {
         let nets = nets_of(alloc, device, circuit)?;
         let touching = touching_of(alloc, nets.as_slice(), spots.len())?;
         let at = modules_at(alloc, device.rows, device.columns, spots)?;
+        let ends = all_ends(alloc, nets.as_slice(), spots)?;
         Ok(Gains {
             rows: device.rows,
             columns: device.columns,
@@ -128,6 +142,7 @@ impl Gains {
             touching,
             spots: Items::from_slice(alloc, spots)?,
             at,
+            ends,
         })
     }
 
@@ -147,16 +162,12 @@ impl Gains {
     {
         let first = self.module_at(a);
         let second = self.module_at(b);
-        gain_of(
-            self.nets.as_slice(),
-            self.nets_at(first),
-            self.nets_at(second),
-            first,
-            second,
-            self.spots.as_slice(),
-            a,
-            b,
-        )
+        let ours = self.nets_at(first);
+        let theirs = self.nets_at(second);
+        let ends = self.ends.as_slice();
+        let one = change_of(ends, ours, theirs, number_of(first), b);
+        let two = change_of(ends, theirs, ours, number_of(second), a);
+        (one.before + two.before) as i64 - (one.after + two.after) as i64
     }
 
     /// Exchanges the contents of both sites. It takes no memory.
@@ -171,6 +182,19 @@ impl Gains {
         self.at.set(site_number(self.columns, b), first);
         put(&mut self.spots, first, b);
         put(&mut self.spots, second, a);
+        let (nets, spots) = (self.nets.as_slice(), self.spots.as_slice());
+        renew(
+            &mut self.ends,
+            nets,
+            listed_at(self.touching.as_slice(), first),
+            spots,
+        );
+        renew(
+            &mut self.ends,
+            nets,
+            listed_at(self.touching.as_slice(), second),
+            spots,
+        );
     }
 
     /// Where the modules stand now. It takes no memory.

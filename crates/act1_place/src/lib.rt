@@ -1,12 +1,15 @@
 //! Placement: where the modules of a circuit stand on a device, by the sum of the half perimeters of its nets.
 #![tactic(auto)]
 
+mod changes;
+mod ends;
 mod gains;
 mod laws;
 mod net;
 mod nets;
 mod placement;
 mod placing;
+mod reaches;
 mod start;
 mod sums;
 

@@ -194,13 +194,13 @@ IsGood state.Start = Unit {0}
 IsGood (state.Device name) = Unit {0}
 IsGood (state.Body p) = IsGoodPlan p
 
-abbrev said : PlanState → List PlanLine
+abbrev pub said : PlanState → List PlanLine
 said state.Start = []
 said (state.Device name) = line.Device name ∷ []
 said (state.Body p) = plan_lines p
 
 -- what is said of the state after a line
-abbrev IsNext : List PlanLine → PlanLine → PlanState → Type 0
+abbrev pub IsNext : List PlanLine → PlanLine → PlanState → Type 0
 IsNext before l t = IsGood t × (said t ≡ before ++ l ∷ [])
 
 ok_is : (s t : PlanState) → let r : Result PlanState Fault = Ok s in r ≡ Ok t → s ≡ t
@@ -341,7 +341,7 @@ module _ (p : Plan) (good : IsGoodPlan p) where
   line_kept (line.Start s) h = start_kept s h
   line_kept (line.Module spot pins) h = module_kept spot pins h
 
-kept : (s t : PlanState) (l : PlanLine) → IsGood s → step s l ≡ Ok t → IsNext (said s) l t
+pub kept : (s t : PlanState) (l : PlanLine) → IsGood s → step s l ≡ Ok t → IsNext (said s) l t
 kept state.Start t (line.Device name) good h = subst (IsNext [] (line.Device name)) (ok_is (state.Device name) t h) (tt, refl)
 kept (state.Device name) t (line.K k) good h =
     subst (IsNext (said (state.Device name)) (line.K k)) (ok_is (state.Body (empty_plan name k)) t h) (record { starts_rise = tt; spots_rise = tt; one_each = refl }, refl)

@@ -25,7 +25,7 @@ use Rattle.act1_plan.proofs.PlanWrites.{text_of_plan}
 use Rattle.act1_plan.proofs.PlanLines.{source_fits, source_is, pins_fit, pins_are, plan_lines_are}
 use Rattle.act1_plan.proofs.PlanSteps.{IsGoodPlan, plan_leads, lines_are_plan, can_end}
 
-abbrev AreFine : List PlanLine → Type 0
+abbrev pub AreFine : List PlanLine → Type 0
 AreFine lines = AllByRecursion (IsFine plan_format) lines
 
 abbrev AreNames : List (List ℕ) → Type 0
@@ -58,7 +58,7 @@ modules_fine [] modules h k = tt
 modules_fine (s ∷ spots) [] h k = tt
 modules_fine (s ∷ spots) (pins ∷ modules) h k = ((tt, ((h.0.0, tt), ((h.0.1, tt), pins_fit 8 pins k.0.0 k.0.1))), modules_fine spots modules h.1 k.1)
 
-plan_fine : (p : Plan) → IsPlan p → AreFine (plan_lines p)
+pub plan_fine : (p : Plan) → IsPlan p → AreFine (plan_lines p)
 plan_fine p is =
     let c = p.placed.circuit in
     let clocks = clock_lines c.clock in
@@ -105,7 +105,7 @@ modules_are (s ∷ spots) (pins ∷ modules) e h =
     let r = modules_are spots modules (omega (arith, e)) h.1 in
     (((h.0.1.0.0, h.0.1.1.0.0), r.0), (pins_are 8 pins h.0.1.1.1, r.1))
 
-plan_is : (p : Plan) → IsGoodPlan p → AreFine (plan_lines p) → IsPlan p
+pub plan_is : (p : Plan) → IsGoodPlan p → AreFine (plan_lines p) → IsPlan p
 plan_is p good h =
     let c = p.placed.circuit in
     let clocks = clock_lines c.clock in

@@ -13,7 +13,12 @@ mod table;
 mod write;
 
 pub use fault::PlanFault;
+pub use line::{PlanLine, PlanState};
 pub use made::plan_of;
 pub use plan::Plan;
 pub use read::read_plan;
+pub use step::plan_step;
+pub use table::{
+    CLOCK_FORM, DEVICE_FORM, INPUT_FORM, K_FORM, MODULE_FORM, OUTPUT_FORM, START_FORM, plan_line_of,
+};
 pub use write::plan_text;

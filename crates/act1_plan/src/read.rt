@@ -5,7 +5,7 @@ ghost use Rattle.act1_plan.specs.Steps.{plan_rules};
 use crate::fault::PlanFault;
 use crate::line::PlanState;
 use crate::plan::Plan;
-use crate::step::step;
+use crate::step::plan_step;
 use crate::table::read_plan_line;
 use act1_base::{Format, Memory, Stop, TextFault, read_text};
 use std::alloc::Global;
@@ -31,7 +31,7 @@ impl Format for PlanFormat {
 
     fn after(&self, state: PlanState, line: &[u8]) -> Result<PlanState, Stop<()>> {
         match read_plan_line(self.alloc, line)? {
-            Some(line) => step(self.alloc, state, line),
+            Some(line) => plan_step(self.alloc, state, line),
             None => Err(Stop::Fault(())),
         }
     }

@@ -152,8 +152,10 @@ fn body_step(mut plan: Plan, line: PlanLine) -> Result<PlanState, Stop<()>>
     Ok(PlanState::Body { plan })
 }
 
-/// The state after a line more, or the one fault that a line can have.
-pub(crate) fn step(alloc: Global, state: PlanState, line: PlanLine) -> Result<PlanState, Stop<()>>
+/// The state after a line more of the text of a plan.
+///
+/// Errors: the one fault that a line can have, that it may not come next; `Memory`.
+pub fn plan_step(alloc: Global, state: PlanState, line: PlanLine) -> Result<PlanState, Stop<()>>
     ensures { Gives result (steps.step state line) }
 {
     match state {

@@ -41,52 +41,73 @@ const SOURCE: Field = Field::OneOf(&[
     &[Part::Text(b"m"), Part::Number(Limit::Most(65_535))],
 ]);
 
+/// `device NAME`
+pub const DEVICE_FORM: Form = Form {
+    fields: &[Field::OneOf(&[&[Part::Text(b"device")]]), Field::Name],
+    rest: NOTHING,
+};
+
+/// `k K`, with at most 255
+pub const K_FORM: Form = Form {
+    fields: &[Field::OneOf(&[&[Part::Text(b"k")]]), BYTE],
+    rest: NOTHING,
+};
+
+/// `clock NAME`
+pub const CLOCK_FORM: Form = Form {
+    fields: &[Field::OneOf(&[&[Part::Text(b"clock")]]), Field::Name],
+    rest: NOTHING,
+};
+
+/// `in NAME`
+pub const INPUT_FORM: Form = Form {
+    fields: &[Field::OneOf(&[&[Part::Text(b"in")]]), Field::Name],
+    rest: NOTHING,
+};
+
+/// `out SOURCE NAME`
+pub const OUTPUT_FORM: Form = Form {
+    fields: &[Field::OneOf(&[&[Part::Text(b"out")]]), SOURCE, Field::Name],
+    rest: NOTHING,
+};
+
+/// `start MODULE INIT NAME`
+pub const START_FORM: Form = Form {
+    fields: &[
+        Field::OneOf(&[&[Part::Text(b"start")]]),
+        Field::OneOf(&[&[Part::Number(Limit::Most(65_535))]]),
+        Field::OneOf(&[&[Part::Number(Limit::Most(3))]]),
+        Field::Name,
+    ],
+    rest: NOTHING,
+};
+
+/// `module ROW COLUMN` and the sources of its eight pins
+pub const MODULE_FORM: Form = Form {
+    fields: &[
+        Field::OneOf(&[&[Part::Text(b"module")]]),
+        BYTE,
+        BYTE,
+        SOURCE,
+        SOURCE,
+        SOURCE,
+        SOURCE,
+        SOURCE,
+        SOURCE,
+        SOURCE,
+        SOURCE,
+    ],
+    rest: NOTHING,
+};
+
 const PLAN_LINES: &[Form] = &[
-    Form {
-        fields: &[Field::OneOf(&[&[Part::Text(b"device")]]), Field::Name],
-        rest: NOTHING,
-    },
-    Form {
-        fields: &[Field::OneOf(&[&[Part::Text(b"k")]]), BYTE],
-        rest: NOTHING,
-    },
-    Form {
-        fields: &[Field::OneOf(&[&[Part::Text(b"clock")]]), Field::Name],
-        rest: NOTHING,
-    },
-    Form {
-        fields: &[Field::OneOf(&[&[Part::Text(b"in")]]), Field::Name],
-        rest: NOTHING,
-    },
-    Form {
-        fields: &[Field::OneOf(&[&[Part::Text(b"out")]]), SOURCE, Field::Name],
-        rest: NOTHING,
-    },
-    Form {
-        fields: &[
-            Field::OneOf(&[&[Part::Text(b"start")]]),
-            Field::OneOf(&[&[Part::Number(Limit::Most(65_535))]]),
-            Field::OneOf(&[&[Part::Number(Limit::Most(3))]]),
-            Field::Name,
-        ],
-        rest: NOTHING,
-    },
-    Form {
-        fields: &[
-            Field::OneOf(&[&[Part::Text(b"module")]]),
-            BYTE,
-            BYTE,
-            SOURCE,
-            SOURCE,
-            SOURCE,
-            SOURCE,
-            SOURCE,
-            SOURCE,
-            SOURCE,
-            SOURCE,
-        ],
-        rest: NOTHING,
-    },
+    DEVICE_FORM,
+    K_FORM,
+    CLOCK_FORM,
+    INPUT_FORM,
+    OUTPUT_FORM,
+    START_FORM,
+    MODULE_FORM,
 ];
 
 /// The forms of the lines.
@@ -171,8 +192,9 @@ fn pins_of(words: &[Given]) -> [Source; 8]
     ]
 }
 
-// What a line of the table says.
-fn line_of(alloc: Global, given: &LineGiven) -> Result<Option<PlanLine>, Memory>
+/// The line of a plan that a line of a table says in which the forms of a plan have their numbers, which are those
+/// from `DEVICE_FORM` with 0 to `MODULE_FORM` with 6. It says none where its form has another number.
+pub fn plan_line_of(alloc: Global, given: &LineGiven) -> Result<Option<PlanLine>, Memory>
     ensures { IfOk result (λ line. line ≡ lines.line_of given.now) }
 {
     let words = given.words.as_slice();
@@ -208,7 +230,7 @@ pub(crate) fn read_plan_line(alloc: Global, bytes: &[u8]) -> Result<Option<PlanL
     ensures { IfOk result (λ line. line ≡ read_own plan_format bytes.now) }
 {
     match read_line(alloc, plan_table(), bytes)? {
-        Some(given) => line_of(alloc, &given),
+        Some(given) => plan_line_of(alloc, &given),
         None => Ok(None),
     }
 }

@@ -14,6 +14,8 @@ pub mod Modules
 pub mod NetlistTexts
 pub mod Netlists
 pub mod PairForms
+pub mod PlanRoutes
+pub mod PlannedCircuits
 pub mod Refutations
 pub mod RingArrays
 pub mod Simulations

@@ -1,5 +1,5 @@
 -- What the command `blif` owes, and what its status 0 says.
-use Rattle.std.proofs.Common.{ℕ, ◌≡◌, ◌≤◌, List, [], refl, sym, ap, subst, ◌∙◌, arith}
+use Rattle.std.proofs.Common.{inl, ℕ, ◌≡◌, ◌≤◌, List, [], refl, sym, ap, subst, ◌∙◌, arith}
 use Rattle.act1_outside.specs.Outside.{Shelf}
 use Rattle.act1_blif.specs.Text.{blif_text}
 use Rattle.act1_blifread.specs.Text.{BlifText}
@@ -21,15 +21,15 @@ use Rattle.act1_top.proofs.TextsRead.{netlist_exact, netlist_fine, netlist_apart
 abbrev no_writes : ℕ → List (List ℕ)
 no_writes status = []
 
-pub blif_lawful : TextsAreOne → (Usage : Type 0) (words : BlifWords) → IsLawful Usage (blif_reads words) [] no_writes (BlifMayEnd words)
+pub blif_lawful : TextsAreOne → (Usage : Type 0) (words : BlifWords) → IsLawful Usage (blif_reads words) [] no_writes (λ e. ⊥) (BlifMayEnd words)
 blif_lawful laws Usage words = record {
   fine = λ before after.
       reads_fine Usage (blif_reads words) no_writes before after BlifText NetlistRefused (file_of words.blif) BlifEnds (first_of (file_of words.blif) [])
       (netlist_fine Usage (blif_reads words) no_writes before after) (λ net e is. text_fine Usage (blif_reads words) no_writes before after 0 (blif_text net) e done_content is);
   later = λ before mid after same. reads_after before mid after same BlifText NetlistRefused (file_of words.blif) BlifEnds BlifEnds (λ net e k. k);
-  one = λ before after told no_fault.
+  one = λ before after told no_fault e p h k. inl (
       one_of before after told (file_of words.blif) (λ f. no_fault (file_of words.blif, first_of (file_of words.blif) [], f)) BlifText NetlistRefused (netlist_exact laws) BlifEnds
-      (λ net n e p h k. status_of_text 0 (blif_text net) e h ∙ sym (status_of_text 0 (blif_text net) p k));
+      (λ net n e p h k. status_of_text 0 (blif_text net) e h ∙ sym (status_of_text 0 (blif_text net) p k)) e p h k);
   named = λ status name h. h;
 }
 
@@ -46,8 +46,8 @@ blif_done words before result after e may leaves zero r =
           (text_printed 0 done_said e before.shelf before.paper result after.shelf after.paper (ap (λ (p : Ending). p.file) n.2) leaves r);
     }
 
--- it never has a verdict of a search
-pub blif_never : (words : BlifWords) (before after : Shelf) (e : Ending) → BlifMayEnd words before after e → 10 ≤ e.status → e.status ≤ 11 → ⊥
+-- it never has an answer of routes or of a search
+pub blif_never : (words : BlifWords) (before after : Shelf) (e : Ending) → BlifMayEnd words before after e → 9 ≤ e.status → e.status ≤ 11 → ⊥
 blif_never words before after e may low high =
     let n = went_on BlifText NetlistRefused before after (file_of words.blif) BlifEnds e.status (λ n. absurd (omega (arith, low, n))) (λ n. absurd (omega (arith, high, n)))
     (netlist_apart e.status (λ n. absurd (omega (arith, low, n)))) e may refl in

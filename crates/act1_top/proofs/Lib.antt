@@ -1,6 +1,6 @@
 pub mod BlifLaws
+pub mod CheckLaws
 pub mod Commands
-pub mod Constants
 pub mod CoverLaws
 pub mod FlowLaws
 pub mod Places

@@ -87,13 +87,13 @@ module _ (laws : TextsAreOne) (job : Job) where
   same_status name e p (inr (h, is)) (inl (w, k, are)) = absurd (unspent w k h)
   same_status name e p (inr (h, is)) (inr (k, are)) = status_of e (spent_ending name job.budget) is ∙ sym (status_of p (spent_ending name job.budget) are)
 
-pub search_lawful : TextsAreOne → (Usage : Type 0) (words : SearchWords) → IsLawful Usage (search_reads words) (search_writes words) (search_writes_at words) (SearchMayEnd words)
+pub search_lawful : TextsAreOne → (Usage : Type 0) (words : SearchWords) → IsLawful Usage (search_reads words) (search_writes words) (search_writes_at words) (λ e. ⊥) (SearchMayEnd words)
 search_lawful laws Usage words = record {
   fine = λ before after e h. fine Usage words before after e h;
   later = λ before mid after same. reads_after before mid after same JobText JobRefused (file_of words.job) (SearchEnds words.answer) (SearchEnds words.answer) (λ job e k. k);
-  one = λ before after told no_fault.
+  one = λ before after told no_fault e p h k. inl (
       one_of before after told (file_of words.job) (λ f. no_fault (file_of words.job, first_of (file_of words.job) [], f)) JobText JobRefused (job_exact laws) (SearchEnds words.answer)
-      (λ job j. same_status laws job words.answer);
+      (λ job j. same_status laws job words.answer) e p h k);
   named = λ status name h. named_by (status == 0 || status == 10 || status == 11) name h;
 }
   where
@@ -169,3 +169,15 @@ module _ (laws : TextsAreOne) (words : SearchWords) (before : World) (result : �
   search_spent may eleven r =
       let f = found 11 (λ n. absurd (omega (arith, n))) (λ n. absurd (omega (arith, n))) (λ n. absurd (omega (arith, n))) may eleven in
       spent_by f.0 f.1 f.2 eleven r
+
+-- it never has the answer of routes
+pub search_never : (words : SearchWords) (before after : Shelf) (e : Ending) → SearchMayEnd words before after e → e.status ≡ 9 → ⊥
+search_never words before after e may nine = by f.2
+  where
+    f : (job : Job) × Found JobText before (file_of words.job) job × SearchEnds words.answer job e
+    f = went_on JobText JobRefused before after (file_of words.job) (SearchEnds words.answer) 9 (λ n. absurd (omega (arith, n))) (λ n. absurd (omega (arith, n))) (job_apart 9 (λ n. absurd (omega (arith, n)))) e may nine
+
+    by : SearchEnds words.answer f.0 e → ⊥
+    by (inl (verdict.Assigned tracks, h, is)) = let zero = status_of e (verdict_ending words.answer (verdict.Assigned tracks)) is in absurd (omega (arith, nine))
+    by (inl (verdict.Refuted log, h, is)) = let ten = status_of e (verdict_ending words.answer (verdict.Refuted log)) is in absurd (omega (arith, nine))
+    by (inr (h, is)) = let eleven = status_of e (spent_ending words.answer f.0.budget) is in absurd (omega (arith, nine))

@@ -71,18 +71,18 @@ same_status laws fill dev file keeps bytes e p (inr (why, other, h, is)) (inr (n
     ∙ ap sim_status (laws.one_refusal dev file bytes fill keeps why next other apart h k)
     ∙ sym (status_of_text (sim_status next) (sim_refusal next).text p are)
 
-pub sim_lawful : TextsAreOne → (Usage : Type 0) (words : SimWords) → IsLawful Usage (sim_reads words) [] no_writes (SimMayEnd words)
+pub sim_lawful : TextsAreOne → (Usage : Type 0) (words : SimWords) → IsLawful Usage (sim_reads words) [] no_writes (λ e. ⊥) (SimMayEnd words)
 sim_lawful laws Usage words = record {
   fine = λ before after e h. fine Usage words before after e h;
   later = λ before mid after same.
       reads_after before mid after same DeviceText DeviceRefused (file_of words.device) (Rest words before mid) (Rest words before after) (λ dev.
       reads_after before mid after same (IsTextOf dev) (FusesRefused dev) (file_of words.fuses) (Vectors words before mid dev) (Vectors words before after dev) (λ file.
       reads_after before mid after same AreBytes NeverRefused (file_of words.vectors) (SimEnds words.fill dev file) (SimEnds words.fill dev file) (λ bytes e k. k)));
-  one = λ before after told no_fault.
+  one = λ before after told no_fault e p h k. inl (
       one_of before after told (file_of words.device) (λ f. no_fault (file_of words.device, first_of (file_of words.device) (file_of words.fuses ∷ file_of words.vectors ∷ []), f)) DeviceText DeviceRefused (device_exact laws) (Rest words before after) (λ dev d.
       one_of before after told (file_of words.fuses) (λ f. no_fault (file_of words.fuses, second_of (file_of words.device) (file_of words.fuses) (file_of words.vectors ∷ []), f)) (IsTextOf dev) (FusesRefused dev) (fuses_exact laws dev) (Vectors words before after dev) (λ file g.
       one_of before after told (file_of words.vectors) (λ f. no_fault (file_of words.vectors, third_of (file_of words.device) (file_of words.fuses) (file_of words.vectors) [], f)) AreBytes NeverRefused bytes_exact (SimEnds words.fill dev file) (λ bytes v.
-      same_status laws words.fill dev file g.text.0 bytes)));
+      same_status laws words.fill dev file g.text.0 bytes))) e p h k);
   named = λ status name h. h;
 }
 
@@ -130,14 +130,14 @@ module _ (words : SimWords) (before : World) (result : ℕ) (after : World) wher
       let s = behind words before.shelf after.shelf 0 (λ n. absurd (omega (arith, n))) (λ n. absurd (omega (arith, n))) (λ n. absurd (omega (arith, n))) (λ n. absurd (omega (arith, n))) e may zero in
       at_end s.dev s.file s.bytes e s.device s.fuses s.vectors s.ends leaves zero r
 
--- it never has a verdict of a search
-pub sim_never : (words : SimWords) (before after : Shelf) (e : Ending) → SimMayEnd words before after e → 10 ≤ e.status → e.status ≤ 11 → ⊥
+-- it never has an answer of routes or of a search
+pub sim_never : (words : SimWords) (before after : Shelf) (e : Ending) → SimMayEnd words before after e → 9 ≤ e.status → e.status ≤ 11 → ⊥
 sim_never words before after e may low high = by s.ends
   where
     s : IsBehind words before after e
     s = behind words before after e.status (λ n. absurd (omega (arith, low, n))) (λ n. absurd (omega (arith, high, n))) (λ n. absurd (omega (arith, low, n))) (λ n. absurd (omega (arith, low, n))) e may refl
 
-    other : (why : SimFault) → 10 ≤ sim_status why → sim_status why ≤ 11 → ⊥
+    other : (why : SimFault) → 9 ≤ sim_status why → sim_status why ≤ 11 → ⊥
     other (fault.Array a) l h = absurd (omega (arith, h))
     other (fault.Vector line) l h = absurd (omega (arith, l))
     other (fault.Unsettled cycle spot) l h = absurd (omega (arith, h))
@@ -147,4 +147,4 @@ sim_never words before after e may low high = by s.ends
     by (inl (text, h, is)) = let zero = status_of_text 0 text e is in absurd (omega (arith, low, zero))
     by (inr (why, n, h, is)) =
         let same = status_of_text (sim_status why) (sim_refusal why).text e is in
-        other why (subst (λ (x : ℕ). 10 ≤ x) same low) (subst (λ (x : ℕ). x ≤ 11) same high)
+        other why (subst (λ (x : ℕ). 9 ≤ x) same low) (subst (λ (x : ℕ). x ≤ 11) same high)

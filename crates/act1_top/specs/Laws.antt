@@ -6,8 +6,9 @@ use Rattle.act1_sim.specs.Laws as sim
 use Rattle.act1_job.specs.Laws as job
 use Rattle.act1_channel.specs.Laws as channel
 use Rattle.act1_search.specs.Exact as search
+use Rattle.act1_report.specs.Laws as report
 
--- no text is both accepted and refused, and each is of one device, netlist, antifuse file or job; an array has one answer to a text of vectors, and the search for a job one end
+-- no text is both accepted and refused, and each is of one device, netlist, antifuse file or job; an array has one answer to a text of vectors, the search for a job one end, and the check of a report one answer
 pub record TextsAreOne : Type 0 where
   pub device_never : device.NeverBoth
   pub one_device : device.OneDevice
@@ -22,3 +23,4 @@ pub record TextsAreOne : Type 0 where
   pub logs_refute : channel.AcceptedLogsRefute
   pub spent : search.SpendingIsExact
   pub fit : search.AssignmentsFit
+  pub one_report_answer : report.OneAnswer

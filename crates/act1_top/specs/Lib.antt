@@ -1,4 +1,5 @@
 pub mod BlifCommand
+pub mod CheckCommand
 pub mod CoverCommand
 pub mod Files
 pub mod FlowCommand

@@ -6,10 +6,11 @@ use Rattle.act1_frame.specs.Endings.{refusal}
 use Rattle.act1_frame.specs.Reading.{Wanted}
 use Rattle.act1_frame.specs.World.{World}
 use Rattle.act1_words.specs.declared.command.Command.{Command}
-use Rattle.act1_words.specs.declared.command.Command.TheVariants.{Unknown, Flow, Sim, Search, Cover, Blif}
+use Rattle.act1_words.specs.declared.command.Command.TheVariants.{Unknown, Flow, Sim, Check, Search, Cover, Blif}
 use Rattle.act1_top.specs.BlifCommand.{blif_reads, BlifMayEnd, BlifIsDone}
+use Rattle.act1_top.specs.CheckCommand.{check_reads, CheckMayEnd, CheckIsDone}
 use Rattle.act1_top.specs.CoverCommand.{cover_reads, CoverMayEnd, CoverIsDone}
-use Rattle.act1_top.specs.FlowCommand.{flow_reads, flow_writes, flow_writes_at, FlowMayEnd, FlowIsDone}
+use Rattle.act1_top.specs.FlowCommand.{flow_reads, flow_writes, flow_writes_at, FlowMayEnd, FlowIsChosen, FlowIsDone, FlowIsVertical, FlowIsRefuted, FlowIsSpent}
 use Rattle.act1_top.specs.SearchCommand.{search_reads, search_writes, search_writes_at, SearchMayEnd, SearchIsDone, SearchIsRefuted, SearchIsSpent}
 use Rattle.act1_top.specs.SimCommand.{sim_reads, SimMayEnd, SimIsDone}
 
@@ -18,6 +19,7 @@ abbrev pub reads_of : Command → List Wanted
 reads_of Unknown = []
 reads_of (Flow words) = flow_reads words
 reads_of (Sim words) = sim_reads words
+reads_of (Check words) = check_reads words
 reads_of (Search words) = search_reads words
 reads_of (Cover words) = cover_reads words
 reads_of (Blif words) = blif_reads words
@@ -27,6 +29,7 @@ abbrev pub writes_of : Command → List (List ℕ)
 writes_of Unknown = []
 writes_of (Flow words) = flow_writes words
 writes_of (Sim words) = []
+writes_of (Check words) = []
 writes_of (Search words) = search_writes words
 writes_of (Cover words) = []
 writes_of (Blif words) = []
@@ -36,6 +39,7 @@ abbrev pub writes_at : Command → ℕ → List (List ℕ)
 writes_at Unknown status = []
 writes_at (Flow words) status = flow_writes_at words status
 writes_at (Sim words) status = []
+writes_at (Check words) status = []
 writes_at (Search words) status = search_writes_at words status
 writes_at (Cover words) status = []
 writes_at (Blif words) status = []
@@ -49,33 +53,57 @@ abbrev pub MayEnd : Command → Shelf → Shelf → Ending → Type 0
 MayEnd Unknown before after e = e ≡ usage_ending
 MayEnd (Flow words) before after e = FlowMayEnd words before after e
 MayEnd (Sim words) before after e = SimMayEnd words before after e
+MayEnd (Check words) before after e = CheckMayEnd words before after e
 MayEnd (Search words) before after e = SearchMayEnd words before after e
 MayEnd (Cover words) before after e = CoverMayEnd words before after e
 MayEnd (Blif words) before after e = BlifMayEnd words before after e
+
+-- the endings between which a command may choose: the circuit that a netlist is mapped to is free, and what comes of it follows from that
+abbrev pub chosen_of : Command → Ending → Type 0
+chosen_of Unknown e = ⊥
+chosen_of (Flow words) e = FlowIsChosen e
+chosen_of (Sim words) e = ⊥
+chosen_of (Check words) e = ⊥
+chosen_of (Search words) e = ⊥
+chosen_of (Cover words) e = ⊥
+chosen_of (Blif words) e = ⊥
 
 -- what status 0 says of a command
 abbrev pub IsDone : Command → World → World → Type 0
 IsDone Unknown before after = ⊥
 IsDone (Flow words) before after = FlowIsDone words before after
 IsDone (Sim words) before after = SimIsDone words before after
+IsDone (Check words) before after = CheckIsDone words before after
 IsDone (Search words) before after = SearchIsDone words before after
 IsDone (Cover words) before after = CoverIsDone words before after
 IsDone (Blif words) before after = BlifIsDone words before after
 
--- what status 10 says of a command, which `search` alone answers today
+-- what status 9 says of a command, which `flow` alone answers
+abbrev pub IsVertical : Command → World → World → Type 0
+IsVertical Unknown before after = ⊥
+IsVertical (Flow words) before after = FlowIsVertical words before after
+IsVertical (Sim words) before after = ⊥
+IsVertical (Check words) before after = ⊥
+IsVertical (Search words) before after = ⊥
+IsVertical (Cover words) before after = ⊥
+IsVertical (Blif words) before after = ⊥
+
+-- what status 10 says of a command
 abbrev pub IsRefuted : Command → World → World → Type 0
 IsRefuted Unknown before after = ⊥
-IsRefuted (Flow words) before after = ⊥
+IsRefuted (Flow words) before after = FlowIsRefuted words before after
 IsRefuted (Sim words) before after = ⊥
+IsRefuted (Check words) before after = ⊥
 IsRefuted (Search words) before after = SearchIsRefuted words before after
 IsRefuted (Cover words) before after = ⊥
 IsRefuted (Blif words) before after = ⊥
 
--- what status 11 says of a command, which `search` alone answers today
+-- what status 11 says of a command
 abbrev pub IsSpent : Command → World → World → Type 0
 IsSpent Unknown before after = ⊥
-IsSpent (Flow words) before after = ⊥
+IsSpent (Flow words) before after = FlowIsSpent words before after
 IsSpent (Sim words) before after = ⊥
+IsSpent (Check words) before after = ⊥
 IsSpent (Search words) before after = SearchIsSpent words before after
 IsSpent (Cover words) before after = ⊥
 IsSpent (Blif words) before after = ⊥

@@ -3,9 +3,10 @@ ghost use Rattle.std.specs.String.{string_bytes};
 ghost use Rattle.act1_frame.specs.Reading.{OnlyRead};
 ghost use Rattle.act1_frame.specs.Stages.{OnStop};
 ghost use Rattle.act1_top.specs.Run.{MayEnd, usage_ending};
-ghost use Rattle.act1_words.specs.Commands.{command_of};
+ghost use Rattle.act1_words.specs.Commands.{command_of, AreInRanges};
 
 use crate::blif_command::blif_ending;
+use crate::check_command::check_ending;
 use crate::cover_command::cover_ending;
 use crate::flow_command::flow_ending;
 use crate::search_command::search_ending;
@@ -30,6 +31,7 @@ fn usage_ending(alloc: Global) -> Result<Ending, Memory>
 
 // How the command ends.
 fn ending_of<F: Files>(alloc: Global, files: &mut F, command: &Command) -> Result<Ending, Stop>
+    requires { AreInRanges command.now }
     ensures ok { IfOk result (MayEnd command.now (F.seen files.old) (F.seen files.new)) }
     ensures err { IfErr result (OnStop (MayEnd command.now (F.seen files.old) (F.seen files.new))) }
     ensures files { OnlyRead (F.seen files.old) (F.seen files.new) }
@@ -38,6 +40,7 @@ fn ending_of<F: Files>(alloc: Global, files: &mut F, command: &Command) -> Resul
         Command::Unknown => Ok(usage_ending(alloc)?),
         Command::Flow(words) => flow_ending(alloc, files, words),
         Command::Sim(words) => sim_ending(alloc, files, words),
+        Command::Check(words) => check_ending(alloc, files, words),
         Command::Search(words) => search_ending(alloc, files, words),
         Command::Cover(words) => cover_ending(alloc, files, words),
         Command::Blif(words) => blif_ending(alloc, files, words),

@@ -5,12 +5,13 @@ use act1_channel::accepted_logs_refute;
 use act1_devread::texts_are_exact;
 use act1_fuses::fuse_texts_are_exact;
 use act1_job::job_texts_are_exact;
+use act1_report::one_answer as one_report_answer;
 use act1_search::answers_are_exact;
 use act1_sim::one_answer;
 
 /// The law of what commands read and find: no text is both accepted and refused, each is of one device,
-/// netlist, antifuse file or job; an array has one answer to a text of vectors, and the search for a job one
-/// end.
+/// netlist, antifuse file or job; an array has one answer to a text of vectors, the search for a job one end,
+/// and the check of a report one answer.
 pub fn texts_are_one()
     ensures { TextsAreOne }
 {
@@ -21,4 +22,5 @@ pub fn texts_are_one()
     job_texts_are_exact();
     accepted_logs_refute();
     answers_are_exact();
+    one_report_answer();
 }

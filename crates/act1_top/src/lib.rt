@@ -2,9 +2,11 @@
 #![tactic(auto)]
 
 mod blif_command;
+mod check_command;
 mod cover_command;
 mod decide;
 mod flow_command;
+mod flow_lines;
 mod found;
 mod laws;
 mod program;

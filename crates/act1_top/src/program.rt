@@ -4,7 +4,7 @@ ghost use Rattle.act1_frame.specs.Clauses.{RunEnds, HasReadFault, HasWriteFault,
 ghost use Rattle.act1_frame.specs.World.{world_of};
 ghost use Rattle.act1_words.specs.Commands.{command_of};
 ghost use Rattle.act1_words.specs.declared.command.Command.TheVariants.{Unknown};
-ghost use Rattle.act1_top.specs.Run.{IsDone, IsRefuted, IsSpent, MayEnd, reads_of, writes_of, writes_at};
+ghost use Rattle.act1_top.specs.Run.{IsDone, IsVertical, IsRefuted, IsSpent, MayEnd, chosen_of, reads_of, writes_of, writes_at};
 
 use crate::decide::decide;
 use crate::laws::texts_are_one;
@@ -23,9 +23,11 @@ pub fn run<F: Files, S: Sink, H: Helpers>(
     out: &mut S,
     helpers: &mut H,
 ) -> u8
-    // Status 0 of `flow` is the headline; status 0 of `sim`, `cover` and `blif` is what is printed. Status 0 of `search` is an
-    // assignment, 10 a refutation and 11 a budget that is spent.
+    // Status 0 of `flow` is the headline, 9 a plan that the rule of routes fails for, 10 a plan with a channel that has no
+    // assignment, and 11 one with a channel whose search spent its budget; status 0 of `sim`, `cover` and `blif` is what is
+    // printed. Status 0 of `search` is an assignment, 10 a refutation and 11 a budget that is spent.
     ensures done { result ≡ 0 → IsDone (command_of (map string_bytes words.now)) (world_of (F.seen files.old) (S.seen out.old) (H.seen helpers.old)) (world_of (F.seen files.new) (S.seen out.new) (H.seen helpers.new)) }
+    ensures vertical { result ≡ 9 → IsVertical (command_of (map string_bytes words.now)) (world_of (F.seen files.old) (S.seen out.old) (H.seen helpers.old)) (world_of (F.seen files.new) (S.seen out.new) (H.seen helpers.new)) }
     ensures refuted { result ≡ 10 → IsRefuted (command_of (map string_bytes words.now)) (world_of (F.seen files.old) (S.seen out.old) (H.seen helpers.old)) (world_of (F.seen files.new) (S.seen out.new) (H.seen helpers.new)) }
     ensures spent { result ≡ 11 → IsSpent (command_of (map string_bytes words.now)) (world_of (F.seen files.old) (S.seen out.old) (H.seen helpers.old)) (world_of (F.seen files.new) (S.seen out.new) (H.seen helpers.new)) }
 
@@ -33,7 +35,7 @@ pub fn run<F: Files, S: Sink, H: Helpers>(
     ensures ends { RunEnds (MayEnd (command_of (map string_bytes words.now))) (world_of (F.seen files.old) (S.seen out.old) (H.seen helpers.old)) result (world_of (F.seen files.new) (S.seen out.new) (H.seen helpers.new)) }
 
     // A cause that stands is answered, and with none the status is 0, or 15 for want of memory.
-    ensures causes { CausesAreAnswered (MayEnd (command_of (map string_bytes words.now))) (reads_of (command_of (map string_bytes words.now))) (writes_of (command_of (map string_bytes words.now))) (world_of (F.seen files.old) (S.seen out.old) (H.seen helpers.old)) result (world_of (F.seen files.new) (S.seen out.new) (H.seen helpers.new)) }
+    ensures causes { CausesAreAnswered (chosen_of (command_of (map string_bytes words.now))) (MayEnd (command_of (map string_bytes words.now))) (reads_of (command_of (map string_bytes words.now))) (writes_of (command_of (map string_bytes words.now))) (world_of (F.seen files.old) (S.seen out.old) (H.seen helpers.old)) result (world_of (F.seen files.new) (S.seen out.new) (H.seen helpers.new)) }
     ensures complete { IsComplete (MayEnd (command_of (map string_bytes words.now))) (writes_of (command_of (map string_bytes words.now))) (world_of (F.seen files.old) (S.seen out.old) (H.seen helpers.old)) result (world_of (F.seen files.new) (S.seen out.new) (H.seen helpers.new)) }
     ensures usage { command_of (map string_bytes words.now) ≡ Unknown
         → Answers 1 (writes_of (command_of (map string_bytes words.now))) (world_of (F.seen files.old) (S.seen out.old) (H.seen helpers.old)) result (world_of (F.seen files.new) (S.seen out.new) (H.seen helpers.new)) }

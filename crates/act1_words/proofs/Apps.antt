@@ -3,7 +3,7 @@ use Rattle.std.proofs.Common.{◌≡◌, Bool, true, false, List, codes, Option,
 use Rattle.clap.specs.Words.{App, Text, first_value, found_of, is_simple_and_free, with_rule}
 use Rattle.clap.specs.declared.parser.matches.ArgMatches.{ArgMatches}
 use Rattle.clap.proofs.OnLiterals.{clap_on_literals}
-use Rattle.act1_words.specs.Commands.{blif_app, cover_app, flow_app, flow_words, search_app, sim_app, IsInRanges}
+use Rattle.act1_words.specs.Commands.{blif_app, check_app, cover_app, flow_app, flow_words, search_app, sim_app, IsInRanges}
 use Rattle.act1_words.specs.Given.{Given, are_taken, file_rule, given_by, is_number, number_rule, plain_app, taken, text_rule, IsFoundOf, IsParseOf}
 
 pub flow_steps : (plain device blif fuses report k budget seed jobs whole : App) → plain ≡ plain_app (codes "flow")
@@ -30,6 +30,14 @@ pub sim_steps : (plain device fuses vectors whole : App) → plain ≡ plain_app
 unfolding sim_app
 sim_steps plain device fuses vectors whole a b c d e =
     e ∙ ap (λ x. with_rule x (number_rule (codes "fill") 0 1 (codes "0"))) (d ∙ ap (λ x. with_rule x (file_rule (codes "VECTORS"))) (c ∙ ap (λ x. with_rule x (file_rule (codes "FUSES"))) (b ∙ ap (λ x. with_rule x (file_rule (codes "DEVICE"))) a)))
+
+pub check_steps : (plain device whole : App) → plain ≡ plain_app (codes "check")
+    → device ≡ with_rule plain (file_rule (codes "DEVICE"))
+    → whole ≡ with_rule device (file_rule (codes "REPORT"))
+    → whole ≡ check_app
+unfolding check_app
+check_steps plain device whole a b c =
+    c ∙ ap (λ x. with_rule x (file_rule (codes "REPORT"))) (b ∙ ap (λ x. with_rule x (file_rule (codes "DEVICE"))) a)
 
 pub search_steps : (plain job whole : App) → plain ≡ plain_app (codes "search")
     → job ≡ with_rule plain (file_rule (codes "JOB"))
@@ -66,6 +74,13 @@ sim_simple = refl
 
 pub sim_is_simple : (app : App) → app ≡ sim_app → is_simple_and_free app ≡ true
 sim_is_simple app is = ap is_simple_and_free is ∙ sim_simple
+
+check_simple : is_simple_and_free check_app ≡ true
+unfolding check_app file_rule plain_app clap_on_literals
+check_simple = refl
+
+pub check_is_simple : (app : App) → app ≡ check_app → is_simple_and_free app ≡ true
+check_is_simple app is = ap is_simple_and_free is ∙ check_simple
 
 search_simple : is_simple_and_free search_app ≡ true
 unfolding search_app file_rule plain_app clap_on_literals

@@ -4,9 +4,10 @@ use Rattle.std.specs.Str.{bytes_eq}
 use Rattle.clap.specs.Words.{App, Rule, Text, with_rule}
 use Rattle.act1_words.specs.Given.{Given, file_rule, number_at, number_rule, plain_app, taken, text_at, text_rule}
 use Rattle.act1_words.specs.declared.command.BlifWords.{BlifWords}
+use Rattle.act1_words.specs.declared.command.CheckWords.{CheckWords}
 use Rattle.act1_words.specs.declared.command.CoverWords.{CoverWords}
 use Rattle.act1_words.specs.declared.command.Command.{Command}
-use Rattle.act1_words.specs.declared.command.Command.TheVariants.{Unknown, Flow, Sim, Search, Cover, Blif}
+use Rattle.act1_words.specs.declared.command.Command.TheVariants.{Unknown, Flow, Sim, Check, Search, Cover, Blif}
 use Rattle.act1_words.specs.declared.command.FlowWords.{FlowWords}
 use Rattle.act1_words.specs.declared.command.SearchWords.{SearchWords}
 use Rattle.act1_words.specs.declared.command.SimWords.{SimWords}
@@ -26,6 +27,10 @@ flow_app = with_rules (plain_app (codes "flow")) (
 -- `sim DEVICE FUSES VECTORS [--fill N]`
 unfoldable pub sim_app : App
 sim_app = with_rules (plain_app (codes "sim")) (file_rule (codes "DEVICE") ∷ file_rule (codes "FUSES") ∷ file_rule (codes "VECTORS") ∷ number_rule (codes "fill") 0 1 (codes "0") ∷ [])
+
+-- `check DEVICE REPORT`
+unfoldable pub check_app : App
+check_app = with_rules (plain_app (codes "check")) (file_rule (codes "DEVICE") ∷ file_rule (codes "REPORT") ∷ [])
 
 -- `search JOB ANSWER`
 unfoldable pub search_app : App
@@ -61,6 +66,9 @@ sim_words given = record {
   fill = number_at given (codes "fill") 0 == 1;
 }
 
+abbrev pub check_words : Given → CheckWords
+check_words given = record { device = text_at given (codes "DEVICE"); report = text_at given (codes "REPORT") }
+
 abbrev pub search_words : Given → SearchWords
 search_words given = record { job = text_at given (codes "JOB"); answer = text_at given (codes "ANSWER") }
 
@@ -83,6 +91,10 @@ abbrev pub sim_asked : Option SimWords → Command
 sim_asked None = Unknown
 sim_asked (Some words) = Sim words
 
+abbrev pub check_asked : Option CheckWords → Command
+check_asked None = Unknown
+check_asked (Some words) = Check words
+
 abbrev pub search_asked : Option SearchWords → Command
 search_asked None = Unknown
 search_asked (Some words) = Search words
@@ -101,6 +113,7 @@ command_of [] = Unknown
 command_of (word ∷ rest) =
     if bytes_eq word (codes "flow") then flow_asked (taken flow_app flow_words (word ∷ rest))
     else if bytes_eq word (codes "sim") then sim_asked (taken sim_app sim_words (word ∷ rest))
+    else if bytes_eq word (codes "check") then check_asked (taken check_app check_words (word ∷ rest))
     else if bytes_eq word (codes "search") then search_asked (taken search_app search_words (word ∷ rest))
     else if bytes_eq word (codes "cover") then cover_asked (taken cover_app cover_words (word ∷ rest))
     else if bytes_eq word (codes "blif") then blif_asked (taken blif_app blif_words (word ∷ rest))
@@ -119,6 +132,7 @@ abbrev pub AreInRanges : Command → Type 0
 AreInRanges Unknown = Unit {0}
 AreInRanges (Flow words) = IsInRanges words
 AreInRanges (Sim words) = Unit {0}
+AreInRanges (Check words) = Unit {0}
 AreInRanges (Search words) = Unit {0}
 AreInRanges (Cover words) = Unit {0}
 AreInRanges (Blif words) = Unit {0}

@@ -38,6 +38,15 @@ pub struct SimWords {
     pub fill: bool,
 }
 
+/// The words of `check DEVICE REPORT`.
+#[derive(Debug, Drop)]
+pub struct CheckWords {
+    /// The device file.
+    pub device: Word,
+    /// The report.
+    pub report: Word,
+}
+
 /// The words of `search JOB ANSWER`.
 #[derive(Debug, Drop)]
 pub struct SearchWords {
@@ -70,6 +79,8 @@ pub enum Command {
     Flow(FlowWords),
     /// Simulates the array of an antifuse file over vectors. It writes no file.
     Sim(SimWords),
+    /// Checks a report: that a channel of its plan has no assignment. It writes no file.
+    Check(CheckWords),
     /// Searches tracks for the connections of a channel, and writes the answer.
     Search(SearchWords),
     /// Prints the least covers of a netlist's nodes. It writes no file.

@@ -3,6 +3,7 @@
 
 mod arguments;
 mod blif_words;
+mod check_words;
 mod command;
 mod cover_words;
 mod flow_words;
@@ -11,5 +12,5 @@ mod sim_words;
 mod words;
 
 pub use act1_frame::Word;
-pub use command::{BlifWords, Command, CoverWords, FlowWords, SearchWords, SimWords};
+pub use command::{BlifWords, CheckWords, Command, CoverWords, FlowWords, SearchWords, SimWords};
 pub use words::command_of;

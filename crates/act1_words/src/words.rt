@@ -2,6 +2,7 @@ ghost use Rattle.std.specs.Prelude.{◌≡◌, map, string_bytes, IfOk};
 ghost use Rattle.act1_words.specs.Commands.{command_of, AreInRanges};
 
 use crate::blif_words::blif_command;
+use crate::check_words::check_command;
 use crate::command::Command;
 use crate::cover_words::cover_command;
 use crate::flow_words::flow_command;
@@ -13,8 +14,8 @@ use std::alloc::Global;
 /// The command that the words ask for, or `Unknown` where they ask for none.
 ///
 /// The first word names it: `flow DEVICE BLIF FUSES REPORT [--k N] [--budget N] [--seed N] [--jobs N] [--with
-/// PROGRAM]`, `sim DEVICE FUSES VECTORS [--fill N]`, `search JOB ANSWER`, `cover BLIF` or `blif BLIF`. `clap` reads the words as
-/// one simple command of that name, without help and version flags: a word that begins with `-` is an option, but
+/// PROGRAM]`, `sim DEVICE FUSES VECTORS [--fill N]`, `check DEVICE REPORT`, `search JOB ANSWER`, `cover BLIF` or `blif BLIF`. `clap`
+/// reads the words as one simple command of that name, without help and version flags: a word that begins with `-` is an option, but
 /// for `-` itself and what stands behind `--`; each option stands once at most, as `--k N` or `--k=N`, its number
 /// within its range. `Unknown` comes exactly where there is no such first word, `clap` refuses the words, or
 /// `--jobs` is above 0 and `--with` names no program.
@@ -30,6 +31,8 @@ pub fn command_of(alloc: Global, words: &[String]) -> Result<Command, Memory>
         flow_command(alloc, words)
     } else if word.as_str() == "sim" {
         sim_command(alloc, words)
+    } else if word.as_str() == "check" {
+        check_command(alloc, words)
     } else if word.as_str() == "search" {
         search_command(alloc, words)
     } else if word.as_str() == "cover" {

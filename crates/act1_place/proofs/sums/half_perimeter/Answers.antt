@@ -1,5 +1,4 @@
 use Rattle.std.proofs.Common.{ℕ, ◌<◌, ◌≤◌, length, arith}
-use Rattle.act1_place.specs.Passes.{exchange}
 use Rattle.act1_place.specs.Perimeter.{place_of}
 use Rattle.act1_place.specs.Kept.{spot_of, places}
 use Rattle.act1_place.proofs.Spans.{spans_first, spans_more, spans_wide, spans_all, how_many}
@@ -7,7 +6,7 @@ use Rattle.act1_place.proofs.sums.half_perimeter.Goals as goal
 
 pub loop-at-init : goal.loop-at-init
 loop-at-init c =
-    let spots = exchange c.args.a c.args.b c.args.spots.now in
+    let spots = c.args.spots.now in
     let ps = places spots c.args.net.now in
     let many = how_many (λ (m : ℕ). place_of (spot_of spots m)) c.args.net.now.modules c.args.net.now.pads in
     let some = c.if-count-eq0.false in
@@ -16,7 +15,7 @@ loop-at-init c =
 
 pub loop-at-preserved : goal.loop-at-preserved
 loop-at-preserved c =
-    let spots = exchange c.args.a c.args.b c.args.spots.now in
+    let spots = c.args.spots.now in
     let ps = places spots c.args.net.now in
     let many = how_many (λ (m : ℕ). place_of (spot_of spots m)) c.args.net.now.modules c.args.net.now.pads in
     let low = c.loop-at-test.true in
@@ -25,14 +24,14 @@ loop-at-preserved c =
     c.loop-at.invariant within c.place_at-place.ensures c.min-left.ensures c.max-right.ensures c.min-low.ensures c.max-high.ensures
 
 pub overflow_sub-right : goal.overflow_sub-right
-overflow_sub-right c = (spans_wide (places (exchange c.args.a c.args.b c.args.spots.now) c.args.net.now) c.loop-at.at c.loop-at.left c.loop-at.right c.loop-at.low c.loop-at.high c.loop-at.invariant).0
+overflow_sub-right c = (spans_wide (places c.args.spots.now c.args.net.now) c.loop-at.at c.loop-at.left c.loop-at.right c.loop-at.low c.loop-at.high c.loop-at.invariant).0
 
 pub overflow_sub-high : goal.overflow_sub-high
-overflow_sub-high c = (spans_wide (places (exchange c.args.a c.args.b c.args.spots.now) c.args.net.now) c.loop-at.at c.loop-at.left c.loop-at.right c.loop-at.low c.loop-at.high c.loop-at.invariant).1
+overflow_sub-high c = (spans_wide (places c.args.spots.now c.args.net.now) c.loop-at.at c.loop-at.left c.loop-at.right c.loop-at.low c.loop-at.high c.loop-at.invariant).1
 
 pub returns : goal.returns
 returns c =
-    let spots = exchange c.args.a c.args.b c.args.spots.now in
+    let spots = c.args.spots.now in
     let ps = places spots c.args.net.now in
     let many = how_many (λ (m : ℕ). place_of (spot_of spots m)) c.args.net.now.modules c.args.net.now.pads in
     let done = c.loop-at-test.false in

@@ -22,7 +22,7 @@ returns-clause-ok g c =
     let before = g.F.Files.seen c.args.files.now in
     let mid = g.F.Files.seen c.device_under.new.files in
     let after = g.F.Files.seen c.netlist_under.new.files in
-    on_ok (FlowEnds c.in_ok-device.device c.in_ok-net.net c.args.words.now.fuses) (FlowStages c.args.words.now before after)
+    on_ok (FlowEnds c.args.words.now c.in_ok-device.device c.in_ok-net.net) (FlowStages c.args.words.now before after)
     (λ e h. inr (c.in_ok-device.device, c.in_ok-device.ensures.ok, inr (c.in_ok-net.net, found_before before mid after c.device_under.ensures.files (file_of c.args.words.now.blif) BlifText c.in_ok-net.net c.in_ok-net.ensures.ok, h)))
     c.flow_ends.result c.flow_ends.ensures.ok
 
@@ -31,6 +31,6 @@ returns-clause-err g c =
     let before = g.F.Files.seen c.args.files.now in
     let mid = g.F.Files.seen c.device_under.new.files in
     let after = g.F.Files.seen c.netlist_under.new.files in
-    on_err (FlowEnds c.in_ok-device.device c.in_ok-net.net c.args.words.now.fuses) (FlowStages c.args.words.now before after)
+    on_err (FlowEnds c.args.words.now c.in_ok-device.device c.in_ok-net.net) (FlowStages c.args.words.now before after)
     (λ e h. inr (c.in_ok-device.device, c.in_ok-device.ensures.ok, inr (c.in_ok-net.net, found_before before mid after c.device_under.ensures.files (file_of c.args.words.now.blif) BlifText c.in_ok-net.net c.in_ok-net.ensures.ok, h)))
     c.flow_ends.result c.flow_ends.ensures.err

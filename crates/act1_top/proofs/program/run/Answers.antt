@@ -2,10 +2,10 @@ use Rattle.std.proofs.Common.{◌≡◌, map, refl, inl, arith}
 use Rattle.std.specs.String.{string_bytes}
 use Rattle.act1_frame.specs.World.{world_of}
 use Rattle.act1_frame.proofs.Runs.{leaves_before, status_at, causes, is_complete, answers, usage, read_fault, write_fault, too_long, others, kept}
-use Rattle.act1_top.specs.Run.{reads_of, writes_of, writes_at, MayEnd}
+use Rattle.act1_top.specs.Run.{reads_of, writes_of, writes_at, chosen_of, MayEnd}
 use Rattle.act1_words.specs.Commands.{command_of}
 use Rattle.act1_words.specs.declared.command.Command.TheVariants.{Unknown}
-use Rattle.act1_top.proofs.Commands.{lawful, is_done, is_refuted, is_spent, usage_status}
+use Rattle.act1_top.proofs.Commands.{lawful, is_done, is_vertical, is_refuted, is_spent, usage_status}
 use Rattle.act1_top.proofs.program.run.Goals as goal
 
 pub returns-in-Ok : goal.returns-in-Ok
@@ -27,21 +27,23 @@ returns-in-Ok g c =
     let reads = reads_of command in
     let writes = writes_of command in
     let at = writes_at command in
+    let Chosen = chosen_of command in
     let May = MayEnd command in
-    let at_status = status_at (command ≡ Unknown) reads writes at May law before result after e may leaves in
+    let at_status = status_at (command ≡ Unknown) reads writes at Chosen May law before result after e may leaves in
     record {
       done = λ zero. is_done c.texts_are_one.ensures before result after e leaves command may (at_status 0 (λ z. absurd (omega (arith, z))) (λ z. absurd (omega (arith, z))) zero) zero;
+      vertical = λ nine. is_vertical c.texts_are_one.ensures before result after e leaves command may (at_status 9 (λ z. absurd (omega (arith, z))) (λ z. absurd (omega (arith, z))) nine) nine;
       refuted = λ ten. is_refuted c.texts_are_one.ensures before result after e leaves command may (at_status 10 (λ z. absurd (omega (arith, z))) (λ z. absurd (omega (arith, z))) ten) ten;
       spent = λ eleven. is_spent c.texts_are_one.ensures before result after e leaves command may (at_status 11 (λ z. absurd (omega (arith, z))) (λ z. absurd (omega (arith, z))) eleven) eleven;
       ends = inl (e, may, leaves);
-      causes = causes (command ≡ Unknown) reads writes at May law before result after e may leaves;
-      complete = is_complete (command ≡ Unknown) reads writes at May law before result after e may leaves;
-      usage = λ is. answers (command ≡ Unknown) reads writes at May law before result after e may leaves 1 (usage_status command before after e may is);
-      no_command = usage (command ≡ Unknown) reads writes at May law before result after e may leaves;
-      read_fault = read_fault (command ≡ Unknown) reads writes at May law before result after e may leaves;
-      write_fault = write_fault (command ≡ Unknown) reads writes at May law before result after e may leaves;
-      too_long = too_long (command ≡ Unknown) reads writes at May law before result after e may leaves;
-      kept = kept (command ≡ Unknown) reads writes at May law before result after e may leaves;
-      others = others (command ≡ Unknown) reads writes at May law before result after e may leaves;
+      causes = causes (command ≡ Unknown) reads writes at Chosen May law before result after e may leaves;
+      complete = is_complete (command ≡ Unknown) reads writes at Chosen May law before result after e may leaves;
+      usage = λ is. answers (command ≡ Unknown) reads writes at Chosen May law before result after e may leaves 1 (usage_status command before after e may is);
+      no_command = usage (command ≡ Unknown) reads writes at Chosen May law before result after e may leaves;
+      read_fault = read_fault (command ≡ Unknown) reads writes at Chosen May law before result after e may leaves;
+      write_fault = write_fault (command ≡ Unknown) reads writes at Chosen May law before result after e may leaves;
+      too_long = too_long (command ≡ Unknown) reads writes at Chosen May law before result after e may leaves;
+      kept = kept (command ≡ Unknown) reads writes at Chosen May law before result after e may leaves;
+      others = others (command ≡ Unknown) reads writes at Chosen May law before result after e may leaves;
       helpers = refl;
     }

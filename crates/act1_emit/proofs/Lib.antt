@@ -1,0 +1,14 @@
+pub mod Arrays
+pub mod Drivers
+pub mod Realized
+pub mod KeptRules
+pub mod Owners
+pub mod Reached
+pub mod SiteLoops
+pub mod PlanSites
+pub mod SitePlaces
+pub mod SitesInOrder
+pub mod SmallSites
+pub mod LegalPlans
+pub mod TrackedPlans
+pub mod Samples

@@ -1,0 +1,15 @@
+pub mod ColumnSteps
+pub mod DemandSteps
+pub mod Distinct
+pub mod Elements
+pub mod InRange
+pub mod LeastFacts
+pub mod NetSteps
+pub mod OneEmission
+pub mod ProblemFacts
+pub mod ProblemSteps
+pub mod RouteFacts
+pub mod RoutingSteps
+pub mod SinkFacts
+pub mod TakeSteps
+pub mod WiringFacts

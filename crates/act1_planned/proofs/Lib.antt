@@ -1,0 +1,8 @@
+mod LegalPlans
+mod Numbered
+mod OrderMeans
+mod OrderSources
+mod OrderSums
+mod Pairs
+mod PortNames
+mod SameRuns

@@ -1,0 +1,5 @@
+mod CheckFacts
+mod ReportLines
+mod ReportSteps
+mod ReportTexts
+mod ReportWrites

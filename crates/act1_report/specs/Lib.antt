@@ -1,0 +1,7 @@
+pub mod CheckSteps
+pub mod Checks
+pub mod Laws
+pub mod Lines
+pub mod Reads
+pub mod Steps
+pub mod Texts
