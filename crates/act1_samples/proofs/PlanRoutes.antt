@@ -58,6 +58,15 @@ takes_the_lesser : routes tied (planned (codes "tied") (codes "a" ∷ [])
     ∷ (record { net = Module 0; left = 0; right = 2; lines = line.Pin 1 2 7 ∷ line.Long 0 0 ∷ [] }) ∷ []) ∷ [])
 takes_the_lesser = refl
 
+-- the source serves the channel of the pad, which is also the home of the wire that the net takes for channel 1; that wire then serves channel 2
+serves_again : routes tied (planned (codes "tied") (codes "a" ∷ [])
+    ((Input 0 ∷ Zero ∷ Zero ∷ Zero ∷ Zero ∷ Zero ∷ Input 0 ∷ Zero ∷ []) ∷ (Zero ∷ Zero ∷ Zero ∷ Zero ∷ Zero ∷ Zero ∷ Input 0 ∷ Zero ∷ []) ∷ []) [] (spot 0 0 ∷ spot 1 2 ∷ []))
+    ≡ Ok (
+    ((record { net = Input 0; left = 0; right = 1; lines = line.Pin 0 0 0 ∷ line.Pad 0 ∷ line.Long 1 0 ∷ [] }) ∷ [])
+    ∷ ((record { net = Input 0; left = 0; right = 1; lines = line.Pin 0 0 6 ∷ line.Long 1 0 ∷ [] }) ∷ [])
+    ∷ ((record { net = Input 0; left = 1; right = 2; lines = line.Pin 1 2 6 ∷ line.Long 1 0 ∷ [] }) ∷ []) ∷ [])
+serves_again = refl
+
 -- in each column a long wire of the channels 0 and 1 and one of 1 and 2; the pad is in channel 1
 middle_is_device : is_device (codes "middle") 2 2 0 0 (([] ∷ []) ∷ []) (record { low = 0; high = 1 } ∷ record { low = 1; high = 2 } ∷ []) (place 1 0 ∷ []) ≡ true
 unfolding is_device

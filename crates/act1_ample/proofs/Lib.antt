@@ -1,0 +1,6 @@
+pub mod Answering
+pub mod CalmSearch
+pub mod SpanningRoutes
+pub mod SpanningWires
+pub mod WideChannels
+pub mod Sure

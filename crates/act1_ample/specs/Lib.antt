@@ -1,0 +1,3 @@
+pub mod Ample
+pub mod Laws
+pub mod Success

@@ -1,0 +1,40 @@
+ghost use Rattle.act1_ample.specs.Success.{FlowSucceeds, FlowIsNotSpent};
+ghost use Rattle.act1_ample.specs.Laws.{AmplePlansRoute, ChannelsAreWide, EnoughIsNotSpent, NoConflicts, RoutesExist, WideIsAnswered, WideIsAssigned, WideIsCalm, WidePlansRoute};
+
+/// The law of wide devices: where there is, for each net of a legal plan, a long wire that spans all channels, and in
+/// each channel an unbroken track, the rule of routes finds a wire for each net and channel, and each channel has an
+/// unbroken track for each of its connections.
+pub fn wide_devices_route()
+    ensures routes { RoutesExist }
+    ensures wide { ChannelsAreWide }
+    ensures plans { WidePlansRoute }
+{}
+
+/// The law of ample devices: on a device that is ample for a netlist, a legal plan that has the netlist's inputs and at
+/// most as many modules as it needs has routes, and each channel has an unbroken track for each of its connections.
+pub fn ample_plans_route()
+    ensures { AmplePlansRoute }
+{}
+
+/// The law of wide channels: where there is an unbroken track for each connection, no descent of the search ends in a
+/// conflict. So the search has no conflicts, and is never refuted.
+pub fn wide_is_calm()
+    ensures calm { WideIsCalm }
+    ensures conflicts { NoConflicts }
+    ensures assigned { WideIsAssigned }
+{}
+
+/// The law of sure answers: whatever the budget, the search of a wide channel answers an assignment, or finds no memory;
+/// and of any channel of n connections and T tracks it never answers that a budget of (1 + T)^n or more is spent.
+pub fn answers_are_sure()
+    ensures assigned { WideIsAnswered }
+    ensures enough { EnoughIsNotSpent }
+{}
+
+/// The law of the flow on ample devices: whatever the settings, the flow of a netlist for a device that is ample for it gives an
+/// antifuse file, or finds no memory. And on any device it isn't spent where the budget is at least `(1 + T)^n` for each
+/// channel of each plan, T the number of tracks and n that of connections.
+pub fn flow_succeeds()
+    ensures ample { FlowSucceeds }
+    ensures enough { FlowIsNotSpent }
+{}
