@@ -32,7 +32,7 @@ use Rattle.act1_flow.specs.declared.assigning.ChannelStop.{ChannelStop}
 use Rattle.act1_flow.specs.declared.assigning.ChannelStop.TheVariants as channel_stop
 use Rattle.act1_flow.specs.Flow.{HasPads, FlowGives, IsAssigned, IsProblemAt}
 use Rattle.act1_flow.specs.Realizes.{IsEmission, IsPlanFor, Realizes, plan_with}
-use Rattle.act1_flow.specs.Steps.{IsProgrammed, IsReady, AreAssignedTo, AreAssignedBefore, IsChannelStop, IsSearchStop, OnVertical, flow_stop}
+use Rattle.act1_flow.specs.Steps.{IsProgrammed, AreAssignedTo, AreAssignedBefore, IsChannelStop, IsSearchStop, OnVertical, flow_stop}
 
 -- the stops of routes are those of the flow
 pub vertical_stops : (dev : Device) (b : Blif) (settings : Settings) (plan : Plan) → IsPlanFor dev b settings plan → (why : FlowStop) → HasPads dev b → OnVertical dev plan why → FlowGives dev b settings (Err why)
@@ -93,11 +93,11 @@ are_assigned fit dev plan channels budget count tracks long are = record {
     IsProblem w p h = IsProblemOf dev plan.k h w p
 
 -- a plan that is routed, with an assignment for each channel, has tracks
-pub has_tracks : AssignmentsFit → (dev : Device) (b : Blif) (settings : Settings) (plan : Plan) (channels : List (List Wiring)) (tracks : List (List ℕ)) → IsReady dev b settings plan → routes dev plan ≡ Ok channels
+pub has_tracks : AssignmentsFit → (dev : Device) (b : Blif) (settings : Settings) (plan : Plan) (channels : List (List Wiring)) (tracks : List (List ℕ)) → IsPlanFor dev b settings plan → routes dev plan ≡ Ok channels
     → AreAssignedTo dev plan channels settings.budget (dev.rows + 1) tracks → HasTracks dev plan channels tracks
-has_tracks fit dev b settings plan channels tracks ready routed are = record {
-  legal = ready.is.legal;
-  drive = all_drive plan.placed.circuit ready.drives;
+has_tracks fit dev b settings plan channels tracks is routed are = record {
+  legal = is.legal;
+  drive = all_drive plan.placed.circuit is.read;
   routed = routed;
   assigned = are_assigned fit dev plan channels settings.budget (dev.rows + 1) tracks (routed_channels dev plan channels routed) are;
 }

@@ -1,5 +1,5 @@
 -- The circuit of a netlist, and its plan.
-use Rattle.std.proofs.Common.{ℕ, ◌≡◌, ◌≢◌, ◌≤◌, ◌<◌, ◌+◌, ◌*◌, min, List, length, map, sym, ap, subst, ◌∙◌, refl, arith}
+use Rattle.std.proofs.Common.{ℕ, ◌≡◌, ◌≢◌, ◌≤◌, ◌<◌, ◌+◌, ◌*◌, min, List, length, map, inl, sym, ap, subst, ◌∙◌, refl, arith}
 use Rattle.std.specs.Prelude.{All, AllPairs, slice_get, Some, Result, Ok, Err}
 use Rattle.std.proofs.lemmas.List.{length-map}
 use Rattle.act1_blif.specs.declared.blif.Blif.{Blif}
@@ -24,7 +24,7 @@ use Rattle.act1_flow.specs.declared.answer.Settings.{Settings}
 use Rattle.act1_flow.specs.declared.mapping.Counted.{Counted}
 use Rattle.act1_flow.specs.Flow.{pads_needed, HasPads, FlowGives}
 use Rattle.act1_flow.specs.Realizes.{IsFew, IsPlanFor}
-use Rattle.act1_flow.specs.Steps.{IsCounted, IsCircuitFor, IsPlanned, IsReady, OnFull, OnPlaceStop, PlanLaws}
+use Rattle.act1_flow.specs.Steps.{IsCounted, IsCircuitFor, IsPlanned, OnFull, OnPlaceStop, PlanLaws}
 
 -- the circuit of the net that is mapped is one of the netlist
 pub circuit_is : NetMeansNetlist → (b : Blif) (counted : Counted) (c : Circuit) → IsCounted b counted → IsMapOf counted.net c → IsCircuitFor b c
@@ -61,17 +61,15 @@ module _ (laws : PlanLaws) (dev : Device) (b : Blif) (settings : Settings) (low 
     sites = planned.settled.sites;
   }
 
-  pub ready : IsReady dev b settings plan
-  ready = record {
-    is = record {
-      legal = laws.legal dev c planned.spots settings.k plan may planned.is;
-      k_is = planned.is.k_is;
-      means = laws.means c b planned.spots plan.placed at_spots is.means;
-      few = subst (IsFew b) (sym planned.is.order.modules_count) is.few;
-      placed = record { circuit = c; spots = planned.spots; range = is.means.in_range; sites = planned.sites; placement = planned.placement; order = planned.is.order };
-      stable = (laws.sums dev c planned.spots plan.placed is.means.in_range at_spots).1 planned.settled.stable;
-    };
-    drives = laws.sources c planned.spots plan.placed is.means.in_range at_spots is.read;
+  pub plan_is : IsPlanFor dev b settings plan
+  plan_is = record {
+    legal = laws.legal dev c planned.spots settings.k plan may planned.is;
+    k_is = planned.is.k_is;
+    means = laws.means c b planned.spots plan.placed at_spots is.means;
+    few = subst (IsFew b) (sym planned.is.order.modules_count) is.few;
+    read = laws.sources c planned.spots plan.placed is.means.in_range at_spots is.read;
+    placed = record { circuit = c; spots = planned.spots; range = is.means.in_range; sites = planned.sites; placement = planned.placement; order = planned.is.order };
+    stable = (laws.sums dev c planned.spots plan.placed is.means.in_range at_spots).1 planned.settled.stable;
   }
 
 -- the stops of the circuit and of its placement are those of the flow
@@ -95,7 +93,7 @@ place_stops dev b settings c is (stop.Pads needed have) pads h =
     let less = h.2 in
     absurd (omega arith)
 place_stops dev b settings c is (stop.Full needed have) pads h =
-    (pads, record { count = needed; few = subst (IsFew b) (sym h.1) is.few; needed_is = min_is needed (subst (λ (n : ℕ). n ≤ 65535) (sym h.1) is.means.in_range.few_modules); have_is = h.2; more = h.3 })
+    (pads, record { count = needed; few = subst (IsFew b) (sym h.1) is.few; of = inl (c, is.means, h.1); needed_is = min_is needed (subst (λ (n : ℕ). n ≤ 65535) (sym h.1) is.means.in_range.few_modules); have_is = h.2; more = h.3 })
 place_stops dev b settings c is (stop.Vertical net channel plan) pads h = absurd h
 place_stops dev b settings c is (stop.Refuted report connections) pads h = absurd h
 place_stops dev b settings c is (stop.Spent plan channel conflicts tracks connections) pads h = absurd h

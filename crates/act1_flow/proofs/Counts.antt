@@ -1,5 +1,5 @@
 -- The net that is mapped, and its least count.
-use Rattle.std.proofs.Common.{ℕ, ◌≡◌, ◌≤◌, ◌<◌, ◌*◌, min, Bool, true, List, refl, sym, subst, length, arith}
+use Rattle.std.proofs.Common.{ℕ, ◌≡◌, ◌≤◌, ◌<◌, ◌*◌, min, Bool, true, List, inr, refl, sym, subst, length, arith}
 use Rattle.std.specs.Prelude.{replicate}
 use Rattle.std.proofs.lemmas.Nat.{mul-le}
 use Rattle.act1_device.specs.declared.device.Device.{Device}
@@ -10,6 +10,7 @@ use Rattle.act1_net.specs.declared.net.Net.{Net}
 use Rattle.act1_net.specs.Net.{IsCleanOf, IsPlainOf}
 use Rattle.act1_map.specs.Least.{IsLeast}
 use Rattle.act1_flow.specs.Realizes.{IsFew}
+use Rattle.act1_flow.specs.declared.mapping.Counted.{Counted}
 use Rattle.act1_flow.specs.Flow.{IsFull}
 use Rattle.act1_flow.specs.Steps.{IsCounted}
 
@@ -30,7 +31,8 @@ whole_counted b net whole plain is needed = record {
 }
 
 -- a count that no circuit can number is more than any device has sites
-pub too_many : (dev : Device) (b : Blif) (count : ℕ) → IsSmall dev → IsFew b count → 65535 < count → IsFull dev b (min count 4294967295) (dev.rows * dev.columns)
-too_many dev b count small few more =
+pub too_many : (dev : Device) (b : Blif) (counted : Counted) → IsSmall dev → IsCounted b counted → 65535 < counted.count → IsFull dev b (min counted.count 4294967295) (dev.rows * dev.columns)
+too_many dev b counted small is more =
     let sites = mul-le dev.rows dev.columns 32 64 small.rows small.columns in
-    record { count = count; few = few; needed_is = refl; have_is = refl; more = omega arith }
+    let low : dev.rows * dev.columns ≤ 2048 = omega (arith, sites) in
+    record { count = counted.count; few = is.few; of = inr (more, is.kept, counted.net, is.is, is.least); needed_is = refl; have_is = refl; more = omega (arith, low, more) }

@@ -1,13 +1,13 @@
 -- What the flow answers.
-use Rattle.std.specs.Prelude.{ℕ, ◌≡◌, ◌+◌, ◌*◌, ◌<◌, ◌≤◌, min, List, length, slice_get, Some, Result, Ok, Err}
+use Rattle.std.specs.Prelude.{ℕ, ◌≡◌, ◌+◌, ◌*◌, ◌<◌, ◌≤◌, ◌⊎◌, min, Bool, List, length, slice_get, Some, Result, Ok, Err}
 use Rattle.act1_blif.specs.declared.blif.Blif.{Blif}
+use Rattle.act1_net.specs.declared.net.Net.{Net}
+use Rattle.act1_net.specs.Net.{IsNetOf}
 use Rattle.act1_map.specs.Least.{IsLeast}
+use Rattle.act1_circuit.specs.declared.circuit.Circuit.{Circuit}
 use Rattle.act1_device.specs.declared.device.Device.{Device}
 use Rattle.act1_meaning.specs.Meaning.{Means}
 use Rattle.act1_plan.specs.declared.plan.Plan.{Plan}
-use Rattle.act1_plan.specs.Legal.{Legal}
-use Rattle.act1_place.specs.Passes.{IsStable}
-use Rattle.act1_planned.specs.Placed.{IsPlacedBy}
 use Rattle.act1_channel.specs.declared.problem.Problem.{Problem}
 use Rattle.act1_search.specs.declared.verdict.SearchStop.{SearchStop}
 use Rattle.act1_search.specs.declared.verdict.SearchStop.TheVariants as search
@@ -56,10 +56,19 @@ pub record IsVertical (dev : Device) (net : Blif) (settings : Settings) (plan : 
   pub plan_is : IsPlanFor dev net settings plan
   pub failed : routes dev plan ≡ Err d
 
--- the modules that are mapped, or counted, are at most the least count, and more than the sites
+-- so many modules has a circuit that means the netlist
+abbrev pub IsCountOfCircuit : Blif → ℕ → Type 0
+IsCountOfCircuit net count = (c : Circuit) × Means c net × (count ≡ length c.modules)
+
+-- it is the least count of a net that does what the netlist does, and more than circuits can number
+abbrev pub IsCountOfNet : Blif → ℕ → Type 0
+IsCountOfNet net count = (65535 < count) × (kept : List Bool) × (n : Net) × IsNetOf net kept n × IsLeast n.blif count
+
+-- the modules of the circuit that the netlist is mapped to, or the least count of the net that would be mapped, are more than the sites; the count is at most the least count of the netlist
 pub record IsFull (dev : Device) (net : Blif) (needed have : ℕ) : Type 0 where
   pub count : ℕ
   pub few : IsFew net count
+  pub of : IsCountOfCircuit net count ⊎ IsCountOfNet net count
   pub needed_is : needed ≡ min count 4294967295
   pub have_is : have ≡ dev.rows * dev.columns
   pub more : have < needed

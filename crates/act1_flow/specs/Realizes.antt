@@ -10,7 +10,7 @@ use Rattle.act1_meaning.specs.Meaning.{Means}
 use Rattle.act1_plan.specs.declared.plan.Plan.{Plan}
 use Rattle.act1_plan.specs.Legal.{Legal}
 use Rattle.act1_place.specs.Passes.{IsStable}
-use Rattle.act1_planned.specs.Placed.{IsPlacedBy}
+use Rattle.act1_planned.specs.Placed.{AllAreSources, IsPlacedBy}
 use Rattle.act1_groute.specs.declared.wiring.Wiring.{Wiring}
 use Rattle.act1_groute.specs.Emitted.{Emitted, AreAssigned}
 use Rattle.act1_groute.specs.Routes.{routes}
@@ -26,12 +26,13 @@ pub record IsFew (net : Blif) (count : ℕ) : Type 0 where
   pub few : count ≤ least
   pub needed : least ≤ need net
 
--- a plan of the netlist. It is legal for the device and has the k of the settings. Its circuit means the netlist, in every order of firing, with at most the least count of modules. The modules have a numbering under which they stand where the passes from the seeded start leave them, and the placement is stable
+-- a plan of the netlist. It is legal for the device and has the k of the settings. Its circuit means the netlist, in every order of firing, with at most the least count of modules, each of which is the source of some pin or output. The modules have a numbering under which they stand where the passes from the seeded start leave them, and the placement is stable
 pub record IsPlanFor (dev : Device) (net : Blif) (settings : Settings) (plan : Plan) : Type 0 where
   pub legal : Legal dev plan
   pub k_is : plan.k ≡ settings.k
   pub means : Means plan.placed.circuit net
   pub few : IsFew net (length plan.placed.circuit.modules)
+  pub read : AllAreSources plan.placed.circuit
   pub placed : IsPlacedBy dev settings.seed plan.placed
   pub stable : IsStable dev plan.placed.circuit plan.placed.spots
 

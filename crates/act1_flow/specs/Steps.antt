@@ -125,11 +125,6 @@ abbrev pub OnPads : Device → Blif → FlowStop → Type 0
 OnPads dev b (stop.Pads needed have) = (needed ≡ pads_needed b) × (have ≡ length dev.pads) × (have < needed)
 OnPads dev b why = ⊥
 
--- a plan of the netlist each of whose modules drives something
-pub record IsReady (dev : Device) (b : Blif) (settings : Settings) (plan : Plan) : Type 0 where
-  pub is : IsPlanFor dev b settings plan
-  pub drives : (m : ℕ) → m < length plan.placed.circuit.modules → ∥ IsSource plan.placed.circuit m ∥₁
-
 -- the plan's file is this one, with so many modules
 pub record IsProgrammed (dev : Device) (plan : Plan) (r : Routed) : Type 0 where
   pub channels : List (List Wiring)

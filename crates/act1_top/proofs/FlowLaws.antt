@@ -286,10 +286,11 @@ module _ (words : FlowWords) (before : World) (result : ℕ) (after : World) (e 
               written = w.holds;
               plan = first.plan_is;
               routed = first.routed;
-              before_it = λ k low. assigned s.dev report.plan first.channels words.budget k (first.before k low);
+              before_it = λ k low. (first.before k low, assigned s.dev report.plan first.channels words.budget k (first.before k low));
               at = first.at;
               accepted = first.is.2;
               ends = first.is.0;
+              few = first.is.1;
               none = laws.logs_refute problem report.log.steps first.is.2;
               printed = subst (λ (m : ℕ). PrintsAll (refuted_text report.channel m (length report.log.steps)) before.paper after.paper) count
                   (subst (λ (t : List ℕ). PrintsAll t before.paper after.paper) (ap (λ (p : Ending). p.text) is) w.printed);
@@ -319,7 +320,7 @@ module _ (words : FlowWords) (before : World) (result : ℕ) (after : World) (e 
               read = read_of s;
               plan_is = first.plan_is;
               routed = first.routed;
-              before_it = λ k low. assigned s.dev plan first.channels words.budget k (first.before k low);
+              before_it = λ k low. (first.before k low, assigned s.dev plan first.channels words.budget k (first.before k low));
               at = first.at;
               conflict = first.is.2.1;
               unfinished = first.is.2.2;

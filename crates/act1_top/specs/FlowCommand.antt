@@ -26,7 +26,7 @@ use Rattle.act1_plan.specs.Texts.{plan_text}
 use Rattle.act1_report.specs.declared.report.Report.{Report}
 use Rattle.act1_report.specs.Texts.{report_text}
 use Rattle.act1_search.specs.Search.{EndsRefuted, HasConflict}
-use Rattle.act1_flow.specs.Flow.{HasPads, IsProblemAt, IsStop, IsVertical}
+use Rattle.act1_flow.specs.Flow.{HasPads, IsAssigned, IsProblemAt, IsStop, IsVertical}
 use Rattle.act1_flow.specs.Realizes.{Realizes, IsPlanFor, IsEmission, plan_with}
 use Rattle.act1_flow.specs.declared.answer.FlowStop.{FlowStop}
 use Rattle.act1_flow.specs.declared.answer.FlowStop.TheVariants as stop
@@ -191,7 +191,7 @@ pub record FlowIsVertical (words : FlowWords) (before after : World) : Type 0 wh
   pub is : IsVertical dev net (settings_of words) plan (record { net = source; channel = channel })
   pub printed : PrintsAll (vertical_text source channel plan) before.paper after.paper
 
--- A channel without an assignment. REPORT now holds the text of a report: its plan is legal and stable, has the k of the words, means the netlist, has at most the least count of modules, and has routes; its channel is the first whose problem has no assignment, and its log is accepted for that problem.
+-- A channel without an assignment. REPORT now holds the text of a report: its plan is legal and stable, has the k of the words, means the netlist, has at most the least count of modules, and has routes; the search of each channel before its own ends with an assignment within the budget; its log is accepted for the problem of its channel, which so has no assignment.
 pub record FlowIsRefuted (words : FlowWords) (before after : World) : Type 0 where
   pub dev : Device
   pub net : Blif
@@ -202,14 +202,15 @@ pub record FlowIsRefuted (words : FlowWords) (before after : World) : Type 0 whe
   pub written : NowHolds words.report (report_text report) before.shelf after.shelf
   pub plan : IsPlanFor dev net (settings_of words) report.plan
   pub routed : routes dev report.plan ≡ Ok channels
-  pub before_it : (h : ℕ) → h < report.channel → HasAssignment dev report.plan channels h
+  pub before_it : (h : ℕ) → h < report.channel → IsAssigned dev report.plan channels words.budget h × HasAssignment dev report.plan channels h
   pub at : IsProblemAt dev report.plan channels report.channel problem
   pub accepted : IsAccepted problem report.log.steps
   pub ends : EndsRefuted problem (choices_of report.log.steps)
+  pub few : length report.log.steps ≤ words.budget
   pub none : (tracks : List ℕ) → Assigns problem tracks → ⊥
   pub printed : PrintsAll (refuted_text report.channel (length problem.connections) (length report.log.steps)) before.paper after.paper
 
--- A search that is spent. What is printed are the channel, the budget, the numbers of its tracks and connections, and the plan, which is as above. Each channel before it has an assignment; the conflict of the budget's number has choices, and so the budget is below `(1 + T)^n`, T the number of tracks and n that of connections.
+-- A search that is spent. What is printed are the channel, the budget, the numbers of its tracks and connections, and the plan, which is as above. The search of each channel before it ends with an assignment within the budget; the conflict of the budget's number has choices, and so the budget is below `(1 + T)^n`, T the number of tracks and n that of connections.
 pub record FlowIsSpent (words : FlowWords) (before after : World) : Type 0 where
   pub dev : Device
   pub net : Blif
@@ -221,7 +222,7 @@ pub record FlowIsSpent (words : FlowWords) (before after : World) : Type 0 where
   pub read : FlowReads words before dev net
   pub plan_is : IsPlanFor dev net (settings_of words) plan
   pub routed : routes dev plan ≡ Ok channels
-  pub before_it : (h : ℕ) → h < channel → HasAssignment dev plan channels h
+  pub before_it : (h : ℕ) → h < channel → IsAssigned dev plan channels words.budget h × HasAssignment dev plan channels h
   pub at : IsProblemAt dev plan channels channel problem
   pub conflict : HasConflict problem words.budget chosen
   pub unfinished : chosen ≢ []
