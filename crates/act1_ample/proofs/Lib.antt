@@ -3,4 +3,3 @@ pub mod CalmSearch
 pub mod SpanningRoutes
 pub mod SpanningWires
 pub mod WideChannels
-pub mod Sure

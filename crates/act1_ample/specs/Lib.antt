@@ -1,3 +1,2 @@
 pub mod Ample
 pub mod Laws
-pub mod Success

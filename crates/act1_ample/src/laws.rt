@@ -1,4 +1,3 @@
-ghost use Rattle.act1_ample.specs.Success.{FlowSucceeds, FlowIsNotSpent};
 ghost use Rattle.act1_ample.specs.Laws.{AmplePlansRoute, ChannelsAreWide, EnoughIsNotSpent, NoConflicts, RoutesExist, WideIsAnswered, WideIsAssigned, WideIsCalm, WidePlansRoute};
 
 /// The law of wide devices: where there is, for each net of a legal plan, a long wire that spans all channels, and in
@@ -29,12 +28,4 @@ pub fn wide_is_calm()
 pub fn answers_are_sure()
     ensures assigned { WideIsAnswered }
     ensures enough { EnoughIsNotSpent }
-{}
-
-/// The law of the flow on ample devices: whatever the settings, the flow of a netlist for a device that is ample for it gives an
-/// antifuse file, or finds no memory. And on any device it isn't spent where the budget is at least `(1 + T)^n` for each
-/// channel of each plan, T the number of tracks and n that of connections.
-pub fn flow_succeeds()
-    ensures ample { FlowSucceeds }
-    ensures enough { FlowIsNotSpent }
 {}

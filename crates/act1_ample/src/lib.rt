@@ -4,6 +4,4 @@
 
 mod laws;
 
-pub use laws::{
-    ample_plans_route, answers_are_sure, flow_succeeds, wide_devices_route, wide_is_calm,
-};
+pub use laws::{ample_plans_route, answers_are_sure, wide_devices_route, wide_is_calm};

@@ -1,5 +1,5 @@
 -- The channels of a plan, and its antifuse file.
-use Rattle.std.proofs.Common.{ℕ, zero, suc, ◌≡◌, ◌⊎◌, ◌<◌, ◌≤◌, ◌+◌, Bool, true, IsTrue, List, [], ◌∷◌, ◌++◌, length, map, Some, inl, inr, sym, ap, subst, ◌∙◌, refl, arith, slice_get, Contains}
+use Rattle.std.proofs.Common.{ℕ, zero, suc, ◌≡◌, ◌⊎◌, ◌<◌, ◌≤◌, ◌+◌, IsTrue, List, [], ◌∷◌, ◌++◌, length, map, Some, inl, inr, sym, ap, subst, ◌∙◌, refl, arith, slice_get}
 use Rattle.std.specs.Prelude.{slice_index_or, Result, Ok, Err}
 use Rattle.std.proofs.Math.Logic.{∥∥₁_elim}
 use mathlib.Core.Bool.{Bool-set}
@@ -30,9 +30,10 @@ use Rattle.act1_flow.specs.declared.answer.Routed.{Routed}
 use Rattle.act1_flow.specs.declared.answer.Settings.{Settings}
 use Rattle.act1_flow.specs.declared.assigning.ChannelStop.{ChannelStop}
 use Rattle.act1_flow.specs.declared.assigning.ChannelStop.TheVariants as channel_stop
-use Rattle.act1_flow.specs.Flow.{HasPads, FlowGives, IsAssigned, IsProblemAt}
+use Rattle.act1_flow.specs.Flow.{HasPads, FlowGives, IsProblemAt}
 use Rattle.act1_flow.specs.Realizes.{IsEmission, IsPlanFor, Realizes, plan_with}
 use Rattle.act1_flow.specs.Steps.{IsProgrammed, AreAssignedTo, AreAssignedBefore, IsChannelStop, IsSearchStop, OnVertical, flow_stop}
+use Rattle.act1_flow.proofs.Reports.{is_checked}
 
 -- the stops of routes are those of the flow
 pub vertical_stops : (dev : Device) (b : Blif) (settings : Settings) (plan : Plan) → IsPlanFor dev b settings plan → (why : FlowStop) → HasPads dev b → OnVertical dev plan why → FlowGives dev b settings (Err why)
@@ -46,8 +47,17 @@ vertical_stops dev b settings plan is stop.Memory pads h = h
 -- so are those of the channels
 pub channel_stops : (dev : Device) (b : Blif) (settings : Settings) (plan : Plan) (channels : List (List Wiring)) → IsPlanFor dev b settings plan → routes dev plan ≡ Ok channels → HasPads dev b
     → (why : ChannelStop) → IsChannelStop dev plan channels settings.budget why → FlowGives dev b settings (Err (flow_stop plan why))
-channel_stops dev b settings plan channels is routed pads (channel_stop.Refuted channel connections log) h =
-    (pads, h.1, record { plan_is = is; channels = channels; routed = routed; before = h.0; at = h.2; is = h.3 }, h.4)
+channel_stops dev b settings plan channels is routed pads (channel_stop.Refuted channel connections log) h = (
+  pads,
+  h.1,
+  record { plan_is = is; channels = channels; routed = routed; before = h.0; at = h.2; is = h.3 },
+  h.4,
+  is_checked dev (record { plan = plan; channel = channel; log = log }) (
+    h.1,
+    record { wirings = h.2.wirings; has = record { legal = is.legal; channels = channels; routed = routed; at = h.2.at }; is = h.2.is },
+    h.3.2,
+  ),
+)
 channel_stops dev b settings plan channels is routed pads (channel_stop.Spent channel conflicts tracks connections) h =
     (pads, h.1, record { plan_is = is; channels = channels; routed = routed; before = h.0; at = h.2; is = h.3 }, h.4, h.5)
 channel_stops dev b settings plan channels is routed pads channel_stop.Memory h = tt

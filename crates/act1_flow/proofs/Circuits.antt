@@ -1,40 +1,40 @@
 -- The circuit of a netlist, and its plan.
-use Rattle.std.proofs.Common.{ℕ, ◌≡◌, ◌≢◌, ◌≤◌, ◌<◌, ◌+◌, ◌*◌, min, List, length, map, inl, sym, ap, subst, ◌∙◌, refl, arith}
-use Rattle.std.specs.Prelude.{All, AllPairs, slice_get, Some, Result, Ok, Err}
+use Rattle.std.proofs.Common.{ℕ, ◌≡◌, ◌≤◌, min, length, inl, sym, ap, subst, ◌∙◌, arith}
+use Rattle.std.specs.Prelude.{Err}
 use Rattle.std.proofs.lemmas.List.{length-map}
 use Rattle.act1_blif.specs.declared.blif.Blif.{Blif}
 use Rattle.act1_blif.specs.Names.{signal_name}
-use Rattle.act1_net.specs.declared.net.Net.{Net}
-use Rattle.act1_net.specs.Net.{IsNetOf}
-use Rattle.act1_map.specs.Laws.{NetHasTerms, NetMeansNetlist}
-use Rattle.act1_map.specs.Least.{IsLeast}
-use Rattle.act1_map.specs.Map.{HasLeastWithin, IsMapOf}
+use Rattle.act1_map.specs.Laws.{NetMeansNetlist}
+use Rattle.act1_map.specs.Map.{IsMapOf}
 use Rattle.act1_circuit.specs.declared.circuit.Circuit.{Circuit}
 use Rattle.act1_circuit.specs.declared.circuit.Output.{Output}
 use Rattle.act1_device.specs.declared.device.Device.{Device}
-use Rattle.act1_meaning.specs.Meaning.{Means, Ports}
+use Rattle.act1_meaning.specs.Meaning.{Means}
 use Rattle.act1_plan.specs.declared.plan.Plan.{Plan}
-use Rattle.act1_plan.specs.Legal.{Legal}
 use Rattle.act1_place.specs.Place as room
 use Rattle.act1_planned.specs.Placed.{IsPlacedAt, MayBePlanned}
 use Rattle.act1_flow.specs.declared.answer.FlowStop.{FlowStop}
 use Rattle.act1_flow.specs.declared.answer.FlowStop.TheVariants as stop
-use Rattle.act1_flow.specs.declared.answer.Routed.{Routed}
 use Rattle.act1_flow.specs.declared.answer.Settings.{Settings}
 use Rattle.act1_flow.specs.declared.mapping.Counted.{Counted}
 use Rattle.act1_flow.specs.Flow.{pads_needed, HasPads, FlowGives}
 use Rattle.act1_flow.specs.Realizes.{IsFew, IsPlanFor}
+use Rattle.act1_flow.proofs.Clear.{no_clash}
 use Rattle.act1_flow.specs.Steps.{IsCounted, IsCircuitFor, IsPlanned, OnFull, OnPlaceStop, PlanLaws}
 
 -- the circuit of the net that is mapped is one of the netlist
 pub circuit_is : NetMeansNetlist → (b : Blif) (counted : Counted) (c : Circuit) → IsCounted b counted → IsMapOf counted.net c → IsCircuitFor b c
 circuit_is law b counted c h is = record {
   form = is.form;
-  means = law b h.kept counted.net c h.is is.means;
+  means = means;
   few = record { least = h.few.least; is = h.few.is; few = le (is.few counted.count h.least) h.few.few; needed = h.few.needed };
   read = is.read;
+  clear = no_clash b h.kept counted.net c h.is h.own means is.means.ports is.own;
 }
   where
+    means : Means c b
+    means = law b h.kept counted.net c h.is is.means
+
     le : {a b c : ℕ} → a ≤ b → b ≤ c → a ≤ c
     le h k = omega arith
 
@@ -65,9 +65,11 @@ module _ (laws : PlanLaws) (dev : Device) (b : Blif) (settings : Settings) (low 
   plan_is = record {
     legal = laws.legal dev c planned.spots settings.k plan may planned.is;
     k_is = planned.is.k_is;
+    form = laws.form c planned.spots plan.placed is.means.in_range at_spots is.form;
     means = laws.means c b planned.spots plan.placed at_spots is.means;
     few = subst (IsFew b) (sym planned.is.order.modules_count) is.few;
     read = laws.sources c planned.spots plan.placed is.means.in_range at_spots is.read;
+    clear = laws.clear c planned.spots plan.placed is.means.in_range at_spots is.clear;
     placed = record { circuit = c; spots = planned.spots; range = is.means.in_range; sites = planned.sites; placement = planned.placement; order = planned.is.order };
     stable = (laws.sums dev c planned.spots plan.placed is.means.in_range at_spots).1 planned.settled.stable;
   }

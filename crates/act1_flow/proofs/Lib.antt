@@ -1,3 +1,6 @@
 pub mod Assigned
 pub mod Circuits
+pub mod Clear
 pub mod Counts
+pub mod Reports
+pub mod Sure

@@ -14,6 +14,9 @@ use Rattle.act1_search.specs.declared.verdict.SearchStop.TheVariants as search
 use Rattle.act1_search.specs.declared.verdict.Verdict.{Verdict}
 use Rattle.act1_search.specs.declared.verdict.Verdict.TheVariants.{Assigned, Refuted}
 use Rattle.act1_search.specs.Answers.{IsAnswer}
+use Rattle.act1_report.specs.declared.report.Report.{Report}
+use Rattle.act1_report.specs.Checks.{ReportChecks}
+use Rattle.act1_report.specs.Texts.{report_text}
 use Rattle.act1_groute.specs.declared.wiring.Wiring.{Wiring}
 use Rattle.act1_groute.specs.Routes.{Demand, routes, IsProblemOf}
 use Rattle.act1_flow.specs.declared.answer.FlowStop.{FlowStop}
@@ -73,13 +76,17 @@ pub record IsFull (dev : Device) (net : Blif) (needed have : ℕ) : Type 0 where
   pub have_is : have ≡ dev.rows * dev.columns
   pub more : have < needed
 
+-- the text of the report is one that the check of reports accepts
+abbrev pub IsChecked : Device → Report → Type 0
+IsChecked dev report = ReportChecks dev (report_text report) (Ok tt)
+
 -- pads are too few exactly where the netlist needs more than there are; else sites, then long wires; else the first channel that the search doesn't assign is refuted or spent
 abbrev pub IsStop : Device → Blif → Settings → FlowStop → Type 0
 IsStop dev net settings (stop.Pads needed have) = (needed ≡ pads_needed net) × (have ≡ length dev.pads) × (have < needed)
 IsStop dev net settings (stop.Full needed have) = HasPads dev net × IsFull dev net needed have
 IsStop dev net settings (stop.Vertical source channel plan) = HasPads dev net × IsVertical dev net settings plan (record { net = source; channel = channel })
 IsStop dev net settings (stop.Refuted report connections) =
-    HasPads dev net × (problem : Problem) × IsFirstUnassigned dev net settings report.plan report.channel problem (Ok (Refuted report.log)) × (connections ≡ length problem.connections)
+    HasPads dev net × (problem : Problem) × IsFirstUnassigned dev net settings report.plan report.channel problem (Ok (Refuted report.log)) × (connections ≡ length problem.connections) × IsChecked dev report
 IsStop dev net settings (stop.Spent plan channel conflicts tracks connections) =
     HasPads dev net × (problem : Problem) × IsFirstUnassigned dev net settings plan channel problem (Err (search.Spent conflicts)) × (tracks ≡ length problem.tracks) × (connections ≡ length problem.connections)
 IsStop dev net settings stop.Memory = ⊥

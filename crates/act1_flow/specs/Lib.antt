@@ -1,3 +1,4 @@
 pub mod Flow
 pub mod Realizes
 pub mod Steps
+pub mod Sure

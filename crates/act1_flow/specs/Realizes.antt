@@ -6,6 +6,8 @@ use Rattle.act1_map.specs.Least.{IsLeast}
 use Rattle.act1_device.specs.declared.device.Device.{Device}
 use Rattle.act1_device.specs.declared.device.Site.{Site}
 use Rattle.act1_circuit.specs.declared.circuit.Placed.{Placed}
+use Rattle.act1_circuit.specs.PairForm.{IsPairForm}
+use Rattle.act1_meaning.specs.ArrayNames.{IsClash}
 use Rattle.act1_meaning.specs.Meaning.{Means}
 use Rattle.act1_plan.specs.declared.plan.Plan.{Plan}
 use Rattle.act1_plan.specs.Legal.{Legal}
@@ -26,13 +28,15 @@ pub record IsFew (net : Blif) (count : ℕ) : Type 0 where
   pub few : count ≤ least
   pub needed : least ≤ need net
 
--- a plan of the netlist. It is legal for the device and has the k of the settings. Its circuit means the netlist, in every order of firing, with at most the least count of modules, each of which is the source of some pin or output. The modules have a numbering under which they stand where the passes from the seeded start leave them, and the placement is stable
+-- a plan of the netlist. It is legal for the device and has the k of the settings. Its circuit is in pair form and means the netlist, in every order of firing, with at most the least count of modules, each of which is the source of some pin or output; no output has the name of an input or a latch but another source. The modules have a numbering under which they stand where the passes from the seeded start leave them, and the placement is stable
 pub record IsPlanFor (dev : Device) (net : Blif) (settings : Settings) (plan : Plan) : Type 0 where
   pub legal : Legal dev plan
   pub k_is : plan.k ≡ settings.k
+  pub form : IsPairForm plan.placed.circuit
   pub means : Means plan.placed.circuit net
   pub few : IsFew net (length plan.placed.circuit.modules)
   pub read : AllAreSources plan.placed.circuit
+  pub clear : (i : ℕ) → IsClash plan.placed.circuit i → ⊥
   pub placed : IsPlacedBy dev settings.seed plan.placed
   pub stable : IsStable dev plan.placed.circuit plan.placed.spots
 

@@ -1,13 +1,16 @@
 -- What the steps of the flow find.
-use Rattle.std.specs.Prelude.{ℕ, ◌≡◌, ◌<◌, ◌≤◌, ◌*◌, Bool, List, length, slice_get, Some, Ok, Err}
+use Rattle.std.specs.Prelude.{ℕ, ◌≡◌, ◌<◌, ◌+◌, Bool, true, List, length, slice_get, Some, Ok, Err}
 use Rattle.act1_blif.specs.declared.blif.Blif.{Blif}
-use Rattle.act1_net.specs.Net.{IsNetOf}
+use Rattle.act1_net.specs.declared.net.Net.{Net}
+use Rattle.act1_net.specs.declared.net.NetTerm.TheVariants as term
+use Rattle.act1_net.specs.Net.{IsNetOf, place_in}
 use Rattle.act1_map.specs.Least.{IsLeast}
 use Rattle.act1_map.specs.Read.{IsSource}
 use Rattle.act1_circuit.specs.declared.circuit.Circuit.{Circuit}
 use Rattle.act1_circuit.specs.declared.circuit.Spot.{Spot}
 use Rattle.act1_circuit.specs.PairForm.{IsPairForm}
 use Rattle.act1_device.specs.declared.device.Device.{Device}
+use Rattle.act1_meaning.specs.ArrayNames.{IsClash}
 use Rattle.act1_meaning.specs.Meaning.{Means}
 use Rattle.act1_plan.specs.declared.plan.Plan.{Plan}
 use Rattle.act1_plan.specs.Order.{IsPlanOf}
@@ -24,7 +27,7 @@ use Rattle.act1_groute.specs.declared.wiring.Wiring.{Wiring}
 use Rattle.act1_groute.specs.Routes.{routes}
 use Rattle.act1_emit.specs.File as emit
 use Rattle.act1_emit.specs.File.{HasTracks}
-use Rattle.act1_planned.specs.Laws.{OrderKeepsMeaning, OrderKeepsSources, OrderKeepsSums, PlansAreLegal, PortsAreNamed}
+use Rattle.act1_planned.specs.Laws.{OrderKeepsClear, OrderKeepsForm, OrderKeepsMeaning, OrderKeepsSources, OrderKeepsSums, PlansAreLegal, PortsAreNamed}
 use Rattle.act1_search.specs.Exact.{AssignmentsFit}
 use Rattle.act1_flow.specs.declared.answer.FlowStop.{FlowStop}
 use Rattle.act1_flow.specs.declared.answer.Routed.{Routed}
@@ -34,8 +37,8 @@ use Rattle.act1_flow.specs.declared.assigning.ChannelStop.{ChannelStop}
 use Rattle.act1_flow.specs.declared.assigning.ChannelStop.TheVariants as channel_stop
 use Rattle.act1_flow.specs.declared.mapping.Counted.{Counted}
 use Rattle.act1_flow.specs.declared.planning.RoutedPlan.{RoutedPlan}
-use Rattle.act1_flow.specs.Flow.{pads_needed, HasPads, IsFull, IsProblemAt, IsAssigned}
-use Rattle.act1_flow.specs.Realizes.{IsFew, IsPlanFor}
+use Rattle.act1_flow.specs.Flow.{pads_needed, IsFull, IsProblemAt, IsAssigned}
+use Rattle.act1_flow.specs.Realizes.{IsFew}
 
 -- a stop of the placement is one of the flow
 abbrev pub stop_of : PlaceStop → FlowStop
@@ -49,19 +52,26 @@ OnFull dev b (stop.Full needed have) = IsFull dev b needed have
 OnFull dev b stop.Memory = Unit {0}
 OnFull dev b why = ⊥
 
+-- an output of the netlist that is an input or a kept latch has that signal of the net as its term
+pub record HasOwnTerms (b : Blif) (kept : List Bool) (net : Net) : Type 0 where
+  pub inputs : (o i : ℕ) → slice_get b.outputs o ≡ Some i → i < length b.inputs → slice_get net.outputs o ≡ Some (term.Signal i)
+  pub latches : (o k : ℕ) → slice_get b.outputs o ≡ Some (length b.inputs + k) → slice_get kept k ≡ Some true → slice_get net.outputs o ≡ Some (term.Signal (length b.inputs + place_in kept k))
+
 -- the net does what the netlist does; its least count of modules is this one, which is at most that of the netlist
 pub record IsCounted (b : Blif) (counted : Counted) : Type 0 where
   pub kept : List Bool
   pub is : IsNetOf b kept counted.net
+  pub own : HasOwnTerms b kept counted.net
   pub least : IsLeast counted.net.blif counted.count
   pub few : IsFew b counted.count
 
--- the circuit means the netlist, with few modules, each of which drives something
+-- the circuit means the netlist, with few modules, each of which drives something; no output has the name of an input or a latch but another source
 pub record IsCircuitFor (b : Blif) (c : Circuit) : Type 0 where
   pub form : IsPairForm c
   pub means : Means c b
   pub few : IsFew b (length c.modules)
   pub read : (m : ℕ) → m < length c.modules → ∥ IsSource c m ∥₁
+  pub clear : (i : ℕ) → IsClash c i → ⊥
 
 -- the plan of the circuit, with its modules where the passes from the seeded start leave them
 pub record IsPlanned (dev : Device) (c : Circuit) (settings : Settings) (plan : Plan) : Type 0 where
@@ -137,6 +147,8 @@ pub record IsProgrammed (dev : Device) (plan : Plan) (r : Routed) : Type 0 where
 pub record PlanLaws : Type 0 where
   pub legal : PlansAreLegal
   pub means : OrderKeepsMeaning
+  pub form : OrderKeepsForm
+  pub clear : OrderKeepsClear
   pub sums : OrderKeepsSums
   pub sources : OrderKeepsSources
   pub named : PortsAreNamed

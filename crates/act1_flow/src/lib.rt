@@ -9,4 +9,5 @@ mod planning;
 mod stages;
 
 pub use answer::{FlowStop, Routed, Settings};
+pub use laws::flow_is_sure;
 pub use stages::flow;

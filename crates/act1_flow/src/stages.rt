@@ -1,11 +1,13 @@
 ghost use Rattle.std.specs.Prelude.{◌≡◌, ◌<◌, ◌≤◌, IfErr, IfOk, OnOk};
 ghost use Rattle.act1_flow.specs.Flow.{FlowGives, HasPads};
 ghost use Rattle.act1_flow.specs.Steps.{IsProgrammed, OnPads, flow_stop};
+ghost use Rattle.act1_flow.specs.Sure.{IsRoutedOrMemory, IsUnspent};
+ghost use Rattle.act1_ample.specs.Ample.{IsAmple};
 ghost use Rattle.act1_emit.specs.File.{HasTracks};
 
 use crate::answer::{FlowStop, Routed, Settings};
 use crate::assigning::{ChannelStop, all_tracks};
-use crate::laws::plan_laws;
+use crate::laws::{flow_is_sure, plan_laws};
 use crate::mapping::circuit_for;
 use crate::planning::{RoutedPlan, plan_for, routed};
 use act1_base::{Items, Memory};
@@ -78,8 +80,8 @@ fn programmed(
     Ok(Routed { fuses, modules })
 }
 
-/// Turns a netlist into an antifuse file for a device, or says why there is none.
-pub fn flow(
+// The stages of the flow, each a line, by the contracts of their layers.
+fn flow_in_stages(
     alloc: Global,
     device: &Device,
     net: &Blif,
@@ -99,4 +101,32 @@ pub fn flow(
         Ok(tracks) => Ok(programmed(alloc, device, &routed, tracks.as_slice())?),
         Err(stop) => Err(channel_stop(routed.plan, stop)),
     }
+}
+
+/// Turns a netlist into an antifuse file for a device, or says why there is none. On a device that is ample for the
+/// netlist (sites at least its need, pads at least its inputs and outputs, and as many unbroken tracks in each channel and
+/// long wires over all channels as its inputs and need together) there always is one, unless no memory is found, whatever
+/// the settings.
+///
+/// Errors, the first of these that is the case. `Pads` where the netlist has more inputs and outputs than the device pads;
+/// `Full` where the modules that it is mapped to, at most its least count, are more than the sites; `Vertical` where the
+/// rule of routes finds no long wire for a net of the plan; then, of the first channel that the search doesn't assign,
+/// `Refuted` where it has no assignment, and `Spent` where the search met as many conflicts as the budget, which isn't the
+/// case where the budget is `(1 + T)^n` or more for each channel of T tracks and n connections. `Memory` where none was
+/// found.
+pub fn flow(
+    alloc: Global,
+    device: &Device,
+    net: &Blif,
+    settings: &Settings,
+) -> Result<Routed, FlowStop>
+    requires low { 1 ≤ settings.now.k }
+    requires high { settings.now.k ≤ 64 }
+    requires budget { 0 < settings.now.budget }
+    ensures gives { FlowGives device.now net.now settings.now result }
+    ensures ample { IsAmple device.now net.now → IsRoutedOrMemory result }
+    ensures unspent { IsUnspent device.now settings.now.budget result }
+{
+    flow_is_sure();
+    flow_in_stages(alloc, device, net, settings)
 }

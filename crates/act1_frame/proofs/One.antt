@@ -71,3 +71,8 @@ module _ (before after : Shelf) (told : IsTrue before.tells) (wanted : Wanted) (
     pub one_of : (Rest : X → Ending → Type 0) → ((x : X) → Found IsText before wanted x → (e p : Ending) → Rest x e → Rest x p → e.status ≡ p.status)
         → (e p : Ending) → Reads IsText Refuses before after wanted Rest e → Reads IsText Refuses before after wanted Rest p → e.status ≡ p.status
     one_of = one_by (λ e p. e.status ≡ p.status) (λ e p h. h)
+
+    -- where the file was found the command went on with it
+    pub went_on_with : (Rest : X → Ending → Type 0) (x : X) → Found IsText before wanted x → (e : Ending) → Reads IsText Refuses before after wanted Rest e → Rest x e
+    went_on_with Rest x f e (inl h) = elim (apart e x h f) [ ]
+    went_on_with Rest x f e (inr h) = subst (λ (y : X). Rest y e) (same_found h.0 x h.1 f) h.2

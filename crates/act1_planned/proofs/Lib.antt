@@ -1,8 +1,10 @@
 mod LegalPlans
 mod Numbered
+mod OrderClear
+mod OrderForm
 mod OrderMeans
 mod OrderSources
 mod OrderSums
 mod Pairs
-mod PortNames
+pub mod PortNames
 mod SameRuns

@@ -47,7 +47,7 @@ numbers_differ (n ∷ ns) h =
     (numbers_differ ns parts.1)
 
 -- of different things each stands at one place
-one_number : (names : List (List ℕ)) → AllPairs (λ (a b : List ℕ). a ≢ b) names → (m n : ℕ) → m < length names → n < length names → get_or names m [] ≡ get_or names n [] → m ≡ n
+pub one_number : (names : List (List ℕ)) → AllPairs (λ (a b : List ℕ). a ≢ b) names → (m n : ℕ) → m < length names → n < length names → get_or names m [] ≡ get_or names n [] → m ≡ n
 one_number names apart m n low high e = by (cases_order m n)
   where
     by : (m ≡ n) ⊎ ((m < n) ⊎ (n < m)) → m ≡ n
@@ -86,6 +86,10 @@ module _ (c : Circuit) (b : Blif) (ports : Ports c b) where
   signals : Known names
   signals = without b.clock (known (with_clock b.clock names) (names_are b))
 
+  -- no two signals of the netlist have one name
+  pub signals_apart : AllPairs OtherName names
+  signals_apart = signals.apart
+
   -- each name of the circuit is that of a signal
   start_is : (s : Start) → Contains c.starts s → Contains latch_names s.name
   start_is s h = at (All-contains (λ (start : Start). (k : ℕ) × (latch : Latch) × StartsLatch b start k latch) c.starts s ports.starts h)
@@ -106,7 +110,7 @@ module _ (c : Circuit) (b : Blif) (ports : Ports c b) where
       let n = length-map b.nodes (λ (node : Node). node.name) in
       omega (arith, a, d, l, n)
 
-  below : (s : ℕ) → Contains b.outputs s → s < length names
+  pub below : (s : ℕ) → Contains b.outputs s → s < length names
   below s h =
       let place = place_of b.outputs s h in
       let test = output_is b place.0 s place.1 in

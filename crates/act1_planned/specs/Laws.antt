@@ -5,7 +5,9 @@ use Rattle.act1_device.specs.declared.device.Device.{Device}
 use Rattle.act1_circuit.specs.declared.circuit.Circuit.{Circuit}
 use Rattle.act1_circuit.specs.declared.circuit.Placed.{Placed}
 use Rattle.act1_circuit.specs.declared.circuit.Spot.{Spot}
+use Rattle.act1_circuit.specs.PairForm.{IsPairForm}
 use Rattle.act1_circuit.specs.Range.{InRange}
+use Rattle.act1_meaning.specs.ArrayNames.{IsClash}
 use Rattle.act1_meaning.specs.Meaning.{Means, Ports}
 use Rattle.act1_plan.specs.declared.plan.Plan.{Plan}
 use Rattle.act1_plan.specs.Legal.{Legal}
@@ -42,3 +44,11 @@ PlacedIsStable = (dev : Device) (seed : ℕ) (p : Placed) → IsPlacedBy dev see
 -- where each module is the source of some pin or output, each is so in site order
 abbrev pub OrderKeepsSources : Type 0
 OrderKeepsSources = (c : Circuit) (spots : List Spot) (p : Placed) → InRange c → IsPlacedAt c spots p → AllAreSources c → AllAreSources p.circuit
+
+-- a circuit in pair form is so in site order
+abbrev pub OrderKeepsForm : Type 0
+OrderKeepsForm = (c : Circuit) (spots : List Spot) (p : Placed) → InRange c → IsPlacedAt c spots p → IsPairForm c → IsPairForm p.circuit
+
+-- where no output has the name of an input or a latch but another source, none has in site order
+abbrev pub OrderKeepsClear : Type 0
+OrderKeepsClear = (c : Circuit) (spots : List Spot) (p : Placed) → InRange c → IsPlacedAt c spots p → ((i : ℕ) → IsClash c i → ⊥) → (i : ℕ) → IsClash p.circuit i → ⊥

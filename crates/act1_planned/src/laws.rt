@@ -1,4 +1,4 @@
-ghost use Rattle.act1_planned.specs.Laws.{OrderKeepsMeaning, OrderKeepsRange, OrderKeepsSources, OrderKeepsSums, PlacedIsStable, PlansAreLegal, PortsAreNamed};
+ghost use Rattle.act1_planned.specs.Laws.{OrderKeepsClear, OrderKeepsForm, OrderKeepsMeaning, OrderKeepsRange, OrderKeepsSources, OrderKeepsSums, PlacedIsStable, PlansAreLegal, PortsAreNamed};
 
 /// The law of meaning: a circuit whose modules are numbered in the order of their spots means what the
 /// circuit means, in every order of firing, and has its sources.
@@ -36,4 +36,17 @@ pub fn placed_are_stable()
 /// when they are numbered in the order of their spots.
 pub fn sources_are_kept()
     ensures { OrderKeepsSources }
+{}
+
+/// The law of pair form: where the clock of a circuit enters pairs alone, no module outside them depends on
+/// itself and the starts are those of the pairs, all this is so when the modules are numbered in the order of
+/// their spots.
+pub fn form_is_kept()
+    ensures { OrderKeepsForm }
+{}
+
+/// The law of clear names: where no output has the name of an input or a latch but another source, none has when
+/// the modules are numbered in the order of their spots.
+pub fn clear_is_kept()
+    ensures { OrderKeepsClear }
 {}

@@ -6,6 +6,6 @@
 mod laws;
 
 pub use laws::{
-    meaning_is_kept, placed_are_stable, plans_are_legal, ports_are_named, sources_are_kept,
-    sums_are_kept,
+    clear_is_kept, form_is_kept, meaning_is_kept, placed_are_stable, plans_are_legal,
+    ports_are_named, sources_are_kept, sums_are_kept,
 };

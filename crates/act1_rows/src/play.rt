@@ -145,8 +145,13 @@ fn play_case<R: Files>(
     out: &mut String,
 ) -> Result<(), Stop> {
     let setting = setting_of(rt, alloc, head, row, case)?;
-    let answer = short_of(alloc, &setting)?;
-    writeln!(out, "{case} => {answer}")?;
+    let answer = answer_of(alloc, &setting)?;
+    if row.statuses {
+        writeln!(out, "{case} => {}", answer.status)?;
+    } else {
+        let short = short_answer(alloc, &answer)?;
+        writeln!(out, "{case} => {short}")?;
+    }
     Ok(())
 }
 

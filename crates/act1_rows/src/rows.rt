@@ -20,6 +20,8 @@ pub struct Row<'a> {
     pub cases: Vec<&'a str>,
     /// The file each of whose fronts the row is run on.
     pub cuts: Option<&'a str>,
+    /// Whether only the status of each case is shown.
+    pub statuses: bool,
 }
 
 /// The rows of a file, and the lines before the first.
@@ -39,6 +41,7 @@ impl<'a> Row<'a> {
             lines: Vec::new(alloc),
             cases: Vec::new(alloc),
             cuts: None,
+            statuses: false,
         }
     }
 
@@ -48,6 +51,8 @@ impl<'a> Row<'a> {
             self.cases.push(case)?;
         } else if let Some(name) = line.text.strip_prefix("cuts ") {
             self.cuts = Some(name);
+        } else if line.text == "statuses" {
+            self.statuses = true;
         } else {
             self.lines.push(line)?;
         }

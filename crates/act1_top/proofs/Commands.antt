@@ -1,6 +1,7 @@
 -- What all commands owe, and what status 0 says of each. A new command is a line in each.
 use Rattle.std.proofs.Common.{ℕ, ◌≡◌, arith}
 use Rattle.act1_frame.specs.declared.ending.Ending.{Ending}
+use Rattle.act1_frame.specs.Clauses.{Answers}
 use Rattle.act1_frame.specs.Leaving.{Leaves}
 use Rattle.act1_frame.specs.World.{World}
 use Rattle.act1_frame.proofs.Fine.{status_of_text}
@@ -8,11 +9,12 @@ use Rattle.act1_frame.proofs.Runs.{IsLawful}
 use Rattle.act1_words.specs.declared.command.Command.{Command}
 use Rattle.act1_words.specs.declared.command.Command.TheVariants.{Unknown, Flow, Sim, Check, Search, Cover, Blif}
 use Rattle.act1_top.specs.Laws.{TextsAreOne}
-use Rattle.act1_top.specs.Run.{reads_of, writes_of, writes_at, usage_ending, chosen_of, MayEnd, IsDone, IsVertical, IsRefuted, IsSpent}
+use Rattle.act1_top.specs.Run.{reads_of, writes_of, writes_at, usage_ending, chosen_of, MayEnd, IsDone, IsVertical, IsRefuted, IsSpent, IsSure}
 use Rattle.act1_top.proofs.BlifLaws.{blif_lawful, blif_done, blif_never}
 use Rattle.act1_top.proofs.CheckLaws.{check_lawful, check_done, check_never}
 use Rattle.act1_top.proofs.CoverLaws.{cover_lawful, cover_done, cover_never}
 use Rattle.act1_top.proofs.FlowLaws.{flow_lawful, flow_done, flow_vertical, flow_refuted, flow_spent}
+use Rattle.act1_top.proofs.FlowSure.{flow_sure}
 use Rattle.act1_top.proofs.SearchLaws.{search_lawful, search_done, search_never, search_refuted, search_spent}
 use Rattle.act1_top.proofs.SimLaws.{sim_lawful, sim_done, sim_never}
 use Rattle.act1_top.proofs.Usage.{usage_lawful}
@@ -62,6 +64,16 @@ module _ (laws : TextsAreOne) (before : World) (result : ℕ) (after : World) (e
   is_spent (Search words) may eleven r = search_spent laws words before result after e leaves may eleven r
   is_spent (Cover words) may eleven r = cover_never words before.shelf after.shelf e may (omega (arith, eleven)) (omega (arith, eleven))
   is_spent (Blif words) may eleven r = blif_never words before.shelf after.shelf e may (omega (arith, eleven)) (omega (arith, eleven))
+
+-- what is sure of a command's status
+pub is_sure : TextsAreOne → (before : World) (result : ℕ) (after : World) (e : Ending) (command : Command) → MayEnd command before.shelf after.shelf e → Answers e.status (writes_of command) before result after → IsSure command before result after
+is_sure laws before result after e Unknown may answer = tt
+is_sure laws before result after e (Flow words) may answer = flow_sure laws words before result after e may answer
+is_sure laws before result after e (Sim words) may answer = tt
+is_sure laws before result after e (Check words) may answer = tt
+is_sure laws before result after e (Search words) may answer = tt
+is_sure laws before result after e (Cover words) may answer = tt
+is_sure laws before result after e (Blif words) may answer = tt
 
 -- words that are no command have the status 1
 pub usage_status : (command : Command) (before after : World) (e : Ending) → MayEnd command before.shelf after.shelf e → command ≡ Unknown → e.status ≡ 1

@@ -47,11 +47,11 @@ cause_is dev net settings (stop.Spent plan channel conflicts tracks connections)
 cause_is dev net settings stop.Memory c h = absurd c
 
 -- the stages behind the device file
-abbrev Rest : FlowWords → Shelf → Shelf → Device → Ending → Type 0
+abbrev pub Rest : FlowWords → Shelf → Shelf → Device → Ending → Type 0
 Rest words before after dev = Reads BlifText NetlistRefused before after (file_of words.blif) (FlowEnds words dev)
 
 -- the status of an ending
-status_of : (e p : Ending) → e ≡ p → e.status ≡ p.status
+pub status_of : (e p : Ending) → e ≡ p → e.status ≡ p.status
 status_of e p h = ap (λ (x : Ending). x.status) h
 
 -- an ending that writes this one file at such a status
@@ -190,7 +190,7 @@ past words before after status two sixteen five four eighteen e (inl h) is = eli
 past words before after status two sixteen five four eighteen e (inr h) is = behind words before after status two sixteen five four e h.1 is
 
 -- the statuses of stops
-abbrev stop_status : FlowStop → ℕ
+abbrev pub stop_status : FlowStop → ℕ
 stop_status (stop.Pads needed have) = 8
 stop_status (stop.Full needed have) = 8
 stop_status (stop.Vertical source channel plan) = 9
@@ -198,7 +198,7 @@ stop_status (stop.Refuted report connections) = 10
 stop_status (stop.Spent plan channel conflicts tracks connections) = 11
 stop_status stop.Memory = 15
 
-status_is : (name : List ℕ) (why : FlowStop) (e : Ending) → e ≡ stop_ending name why → e.status ≡ stop_status why
+pub status_is : (name : List ℕ) (why : FlowStop) (e : Ending) → e ≡ stop_ending name why → e.status ≡ stop_status why
 status_is name (stop.Pads needed have) e is = status_of e (stop_ending name (stop.Pads needed have)) is
 status_is name (stop.Full needed have) e is = status_of e (stop_ending name (stop.Full needed have)) is
 status_is name (stop.Vertical source channel plan) e is = status_of e (stop_ending name (stop.Vertical source channel plan)) is
@@ -274,7 +274,7 @@ module _ (words : FlowWords) (before : World) (result : ℕ) (after : World) (e 
         by (stop.Pads needed have) h is n = absurd (omega (arith, n))
         by (stop.Full needed have) h is n = absurd (omega (arith, n))
         by (stop.Vertical source channel plan) h is n = absurd (omega (arith, n))
-        by (stop.Refuted report connections) (pads, problem, first, count) is n =
+        by (stop.Refuted report connections) (pads, problem, first, count, checked) is n =
             let w = file_written 10 (said_at 10 (λ n. absurd (omega (arith, n))) (λ n. absurd (omega (arith, n)))) e (record { name = words.report; bytes = report_text report }) before.shelf before.paper result after.shelf after.paper (ap (λ (p : Ending). p.file) is) leaves r in
             record {
               dev = s.dev;
@@ -292,6 +292,7 @@ module _ (words : FlowWords) (before : World) (result : ℕ) (after : World) (e 
               ends = first.is.0;
               few = first.is.1;
               none = laws.logs_refute problem report.log.steps first.is.2;
+              checked = checked;
               printed = subst (λ (m : ℕ). PrintsAll (refuted_text report.channel m (length report.log.steps)) before.paper after.paper) count
                   (subst (λ (t : List ℕ). PrintsAll t before.paper after.paper) (ap (λ (p : Ending). p.text) is) w.printed);
             }

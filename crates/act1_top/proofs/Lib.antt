@@ -3,6 +3,7 @@ pub mod CheckLaws
 pub mod Commands
 pub mod CoverLaws
 pub mod FlowLaws
+pub mod FlowSure
 pub mod Places
 pub mod SearchLaws
 pub mod SimLaws

@@ -26,7 +26,7 @@ use Rattle.act1_plan.specs.Texts.{plan_text}
 use Rattle.act1_report.specs.declared.report.Report.{Report}
 use Rattle.act1_report.specs.Texts.{report_text}
 use Rattle.act1_search.specs.Search.{EndsRefuted, HasConflict}
-use Rattle.act1_flow.specs.Flow.{HasPads, IsAssigned, IsProblemAt, IsStop, IsVertical}
+use Rattle.act1_flow.specs.Flow.{HasPads, IsAssigned, IsChecked, IsProblemAt, IsStop, IsVertical}
 use Rattle.act1_flow.specs.Realizes.{Realizes, IsPlanFor, IsEmission, plan_with}
 use Rattle.act1_flow.specs.declared.answer.FlowStop.{FlowStop}
 use Rattle.act1_flow.specs.declared.answer.FlowStop.TheVariants as stop
@@ -191,7 +191,7 @@ pub record FlowIsVertical (words : FlowWords) (before after : World) : Type 0 wh
   pub is : IsVertical dev net (settings_of words) plan (record { net = source; channel = channel })
   pub printed : PrintsAll (vertical_text source channel plan) before.paper after.paper
 
--- A channel without an assignment. REPORT now holds the text of a report: its plan is legal and stable, has the k of the words, means the netlist, has at most the least count of modules, and has routes; the search of each channel before its own ends with an assignment within the budget; its log is accepted for the problem of its channel, which so has no assignment.
+-- A channel without an assignment. REPORT now holds the text of a report: its plan is legal and stable, has the k of the words, means the netlist, has at most the least count of modules, and has routes; the search of each channel before its own ends with an assignment within the budget; its log is accepted for the problem of its channel, which so has no assignment. The command `check` accepts what is written.
 pub record FlowIsRefuted (words : FlowWords) (before after : World) : Type 0 where
   pub dev : Device
   pub net : Blif
@@ -208,6 +208,7 @@ pub record FlowIsRefuted (words : FlowWords) (before after : World) : Type 0 whe
   pub ends : EndsRefuted problem (choices_of report.log.steps)
   pub few : length report.log.steps ≤ words.budget
   pub none : (tracks : List ℕ) → Assigns problem tracks → ⊥
+  pub checked : IsChecked dev report
   pub printed : PrintsAll (refuted_text report.channel (length problem.connections) (length report.log.steps)) before.paper after.paper
 
 -- A search that is spent. What is printed are the channel, the budget, the numbers of its tracks and connections, and the plan, which is as above. The search of each channel before it ends with an assignment within the budget; the conflict of the budget's number has choices, and so the budget is below `(1 + T)^n`, T the number of tracks and n that of connections.

@@ -7,3 +7,4 @@ pub mod Laws
 pub mod Run
 pub mod SearchCommand
 pub mod SimCommand
+pub mod Sure

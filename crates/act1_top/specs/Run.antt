@@ -13,6 +13,7 @@ use Rattle.act1_top.specs.CoverCommand.{cover_reads, CoverMayEnd, CoverIsDone}
 use Rattle.act1_top.specs.FlowCommand.{flow_reads, flow_writes, flow_writes_at, FlowMayEnd, FlowIsChosen, FlowIsDone, FlowIsVertical, FlowIsRefuted, FlowIsSpent}
 use Rattle.act1_top.specs.SearchCommand.{search_reads, search_writes, search_writes_at, SearchMayEnd, SearchIsDone, SearchIsRefuted, SearchIsSpent}
 use Rattle.act1_top.specs.SimCommand.{sim_reads, SimMayEnd, SimIsDone}
+use Rattle.act1_top.specs.Sure.{FlowIsComplete}
 
 -- the files that a command may read
 abbrev pub reads_of : Command → List Wanted
@@ -107,3 +108,13 @@ IsSpent (Check words) before after = ⊥
 IsSpent (Search words) before after = SearchIsSpent words before after
 IsSpent (Cover words) before after = ⊥
 IsSpent (Blif words) before after = ⊥
+
+-- what is sure of a command whose files are accepted, beside that it ends as it may
+abbrev pub IsSure : Command → World → ℕ → World → Type 0
+IsSure Unknown before result after = Unit {0}
+IsSure (Flow words) before result after = FlowIsComplete words before result after
+IsSure (Sim words) before result after = Unit {0}
+IsSure (Check words) before result after = Unit {0}
+IsSure (Search words) before result after = Unit {0}
+IsSure (Cover words) before result after = Unit {0}
+IsSure (Blif words) before result after = Unit {0}

@@ -4,7 +4,7 @@ ghost use Rattle.act1_frame.specs.Clauses.{RunEnds, HasReadFault, HasWriteFault,
 ghost use Rattle.act1_frame.specs.World.{world_of};
 ghost use Rattle.act1_words.specs.Commands.{command_of};
 ghost use Rattle.act1_words.specs.declared.command.Command.TheVariants.{Unknown};
-ghost use Rattle.act1_top.specs.Run.{IsDone, IsVertical, IsRefuted, IsSpent, MayEnd, chosen_of, reads_of, writes_of, writes_at};
+ghost use Rattle.act1_top.specs.Run.{IsDone, IsVertical, IsRefuted, IsSpent, IsSure, MayEnd, chosen_of, reads_of, writes_of, writes_at};
 
 use crate::decide::decide;
 use crate::laws::texts_are_one;
@@ -38,6 +38,9 @@ pub fn run<F: Files, S: Sink, H: Helpers>(
     // A cause that stands is answered, and with none the status is 0, or 15 for want of memory.
     ensures causes { CausesAreAnswered (chosen_of (command_of (map string_bytes words.now))) (MayEnd (command_of (map string_bytes words.now))) (reads_of (command_of (map string_bytes words.now))) (writes_of (command_of (map string_bytes words.now))) (world_of (F.seen files.old) (S.seen out.old) (H.seen helpers.old)) result (world_of (F.seen files.new) (S.seen out.new) (H.seen helpers.new)) }
     ensures complete { IsComplete (MayEnd (command_of (map string_bytes words.now))) (writes_of (command_of (map string_bytes words.now))) (world_of (F.seen files.old) (S.seen out.old) (H.seen helpers.old)) result (world_of (F.seen files.new) (S.seen out.new) (H.seen helpers.new)) }
+    // Where both texts are accepted and nothing stands in the way, `flow` ends with 0, 8 to 11 or 15; with 0 or 15 where
+    // the device is ample for the netlist.
+    ensures sure { IsSure (command_of (map string_bytes words.now)) (world_of (F.seen files.old) (S.seen out.old) (H.seen helpers.old)) result (world_of (F.seen files.new) (S.seen out.new) (H.seen helpers.new)) }
     ensures usage { command_of (map string_bytes words.now) ≡ Unknown
         → Answers 1 (writes_of (command_of (map string_bytes words.now))) (world_of (F.seen files.old) (S.seen out.old) (H.seen helpers.old)) result (world_of (F.seen files.new) (S.seen out.new) (H.seen helpers.new)) }
 

@@ -9,5 +9,5 @@ returns-in_ok-stopped_ending-in-Err-clause-ok c =
     let dev = c.args.device.now in
     let net = c.args.net.now in
     let why = c.in-Err.stop in
-    let cause = cause_is dev net c.settings_of-settings.result why c.in_ok-stopped_ending-in-Err.ensures.cause c.in-Err.ensures in
+    let cause = cause_is dev net c.settings_of-settings.result why c.in_ok-stopped_ending-in-Err.ensures.cause c.in-Err.ensures.gives in
     inl (why, subst (λ (s : Settings). IsStop dev net s why) c.settings_of-settings.ensures cause, c.in_ok-stopped_ending-in-Err.ensures.is)

@@ -1,11 +1,11 @@
 use Rattle.std.proofs.Common.{◌≡◌, map, refl, inl, arith}
 use Rattle.std.specs.String.{string_bytes}
 use Rattle.act1_frame.specs.World.{world_of}
-use Rattle.act1_frame.proofs.Runs.{leaves_before, status_at, causes, is_complete, answers, usage, read_fault, write_fault, too_long, others, kept}
+use Rattle.act1_frame.proofs.Runs.{answers, leaves_before, status_at, causes, is_complete, usage, read_fault, write_fault, too_long, others, kept}
 use Rattle.act1_top.specs.Run.{reads_of, writes_of, writes_at, chosen_of, MayEnd}
 use Rattle.act1_words.specs.Commands.{command_of}
 use Rattle.act1_words.specs.declared.command.Command.TheVariants.{Unknown}
-use Rattle.act1_top.proofs.Commands.{lawful, is_done, is_vertical, is_refuted, is_spent, usage_status}
+use Rattle.act1_top.proofs.Commands.{lawful, is_done, is_vertical, is_refuted, is_spent, is_sure, usage_status}
 use Rattle.act1_top.proofs.program.run.Goals as goal
 
 pub returns-in-Ok : goal.returns-in-Ok
@@ -38,6 +38,7 @@ returns-in-Ok g c =
       ends = inl (e, may, leaves);
       causes = causes (command ≡ Unknown) reads writes at Chosen May law before result after e may leaves;
       complete = is_complete (command ≡ Unknown) reads writes at Chosen May law before result after e may leaves;
+      sure = is_sure c.texts_are_one.ensures before result after e command may (answers (command ≡ Unknown) reads writes at Chosen May law before result after e may leaves e.status refl);
       usage = λ is. answers (command ≡ Unknown) reads writes at Chosen May law before result after e may leaves 1 (usage_status command before after e may is);
       no_command = usage (command ≡ Unknown) reads writes at Chosen May law before result after e may leaves;
       read_fault = read_fault (command ≡ Unknown) reads writes at Chosen May law before result after e may leaves;

@@ -1,4 +1,4 @@
--- On an ample device the flow succeeds.
+-- On an ample device the flow succeeds, and with a budget that is enough it isn't spent.
 use Rattle.std.proofs.Common.{ℕ, ◌≡◌, ◌⊎◌, ◌+◌, ◌*◌, ◌<◌, ◌≤◌, List, length, refl, sym, ap, ◌∙◌, inl, inr, arith, slice_get, Some}
 use Rattle.std.specs.Prelude.{Result, Ok, Err, min}
 use Rattle.act1_blif.specs.declared.blif.Blif.{Blif}
@@ -20,7 +20,7 @@ use Rattle.act1_ample.specs.Ample.{IsAmple}
 use Rattle.act1_ample.specs.Laws.{RoutesWidely}
 use Rattle.act1_ample.proofs.WideChannels.{ample_plans_route}
 use Rattle.act1_ample.proofs.Answering.{wide_is_answered, enough_is_not_spent}
-use Rattle.act1_ample.specs.Success.{FlowSucceeds, FlowIsNotSpent}
+use Rattle.act1_flow.specs.Sure.{FlowSucceeds, FlowIsNotSpent}
 
 module _ (dev : Device) (net : Blif) (settings : Settings) (ample : IsAmple dev net) where
   plan_routes : (plan : Plan) → IsPlanFor dev net settings plan → RoutesWidely dev plan
@@ -71,5 +71,11 @@ flow_succeeds dev net settings (Err (stop.Spent plan channel conflicts tracks co
 flow_succeeds dev net settings (Err stop.Memory) ample h = inr refl
 
 pub flow_is_not_spent : FlowIsNotSpent
-flow_is_not_spent dev net settings plan channel conflicts tracks connections enough h =
-    enough_is_not_spent h.1 settings.budget conflicts (enough h.2.channels channel h.1 h.2.routed h.2.at) h.2.is
+flow_is_not_spent dev net settings (Ok routed) h = tt
+flow_is_not_spent dev net settings (Err (stop.Pads needed have)) h = tt
+flow_is_not_spent dev net settings (Err (stop.Full needed have)) h = tt
+flow_is_not_spent dev net settings (Err (stop.Vertical source channel plan)) h = tt
+flow_is_not_spent dev net settings (Err (stop.Refuted report connections)) h = tt
+flow_is_not_spent dev net settings (Err (stop.Spent plan channel conflicts tracks connections)) h =
+    λ enough. enough_is_not_spent h.1 settings.budget conflicts (enough h.2.channels channel h.1 h.2.routed h.2.at) h.2.is
+flow_is_not_spent dev net settings (Err stop.Memory) h = tt

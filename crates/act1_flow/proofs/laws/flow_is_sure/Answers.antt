@@ -1,0 +1,5 @@
+use Rattle.act1_flow.proofs.Sure as laws
+use Rattle.act1_flow.proofs.laws.flow_is_sure.Goals as goal
+
+pub returns : goal.returns
+returns c = record { ample = laws.flow_succeeds; unspent = laws.flow_is_not_spent }

@@ -1,0 +1,35 @@
+-- What is sure of the flow: where its searches aren't spent, and that it succeeds on an ample device.
+use Rattle.std.specs.Prelude.{ℕ, ◌≡◌, ◌+◌, ◌^◌, ◌≤◌, ◌⊎◌, List, length, Result, Ok, Err}
+use Rattle.act1_blif.specs.declared.blif.Blif.{Blif}
+use Rattle.act1_device.specs.declared.device.Device.{Device}
+use Rattle.act1_channel.specs.declared.problem.Problem.{Problem}
+use Rattle.act1_plan.specs.declared.plan.Plan.{Plan}
+use Rattle.act1_groute.specs.declared.wiring.Wiring.{Wiring}
+use Rattle.act1_groute.specs.Routes.{routes}
+use Rattle.act1_ample.specs.Ample.{IsAmple}
+use Rattle.act1_flow.specs.declared.answer.FlowStop.{FlowStop}
+use Rattle.act1_flow.specs.declared.answer.FlowStop.TheVariants as stop
+use Rattle.act1_flow.specs.declared.answer.Routed.{Routed}
+use Rattle.act1_flow.specs.declared.answer.Settings.{Settings}
+use Rattle.act1_flow.specs.Flow.{FlowGives, IsProblemAt}
+
+-- an antifuse file, or want of memory
+abbrev pub IsRoutedOrMemory : Result Routed FlowStop → Type 0
+IsRoutedOrMemory r = ((routed : Routed) × (r ≡ Ok routed)) ⊎ (r ≡ Err stop.Memory)
+
+-- the budget is at least (1 + T)^n for each channel of the plan, T the number of its tracks and n that of its connections
+abbrev pub IsEnoughFor : Device → Plan → ℕ → Type 0
+IsEnoughFor dev plan budget = (channels : List (List Wiring)) (h : ℕ) (p : Problem) → routes dev plan ≡ Ok channels → IsProblemAt dev plan channels h p → (1 + length p.tracks) ^ length p.connections ≤ budget
+
+-- the answer isn't that a search is spent though the budget is enough for its plan
+abbrev pub IsUnspent : Device → ℕ → Result Routed FlowStop → Type 0
+IsUnspent dev budget (Err (stop.Spent plan channel conflicts tracks connections)) = IsEnoughFor dev plan budget → ⊥
+IsUnspent dev budget _ = Unit {0}
+
+-- on a device that is ample for the netlist the flow gives an antifuse file or finds no memory, whatever its settings
+abbrev pub FlowSucceeds : Type 0
+FlowSucceeds = (dev : Device) (net : Blif) (settings : Settings) (r : Result Routed FlowStop) → IsAmple dev net → FlowGives dev net settings r → IsRoutedOrMemory r
+
+-- where the budget is enough for a plan, the flow doesn't answer that a search of it is spent
+abbrev pub FlowIsNotSpent : Type 0
+FlowIsNotSpent = (dev : Device) (net : Blif) (settings : Settings) (r : Result Routed FlowStop) → FlowGives dev net settings r → IsUnspent dev settings.budget r
