@@ -20,7 +20,8 @@ use Rattle.act1_ample.specs.Ample.{IsAmple}
 use Rattle.act1_ample.specs.Laws.{RoutesWidely}
 use Rattle.act1_ample.proofs.WideChannels.{ample_plans_route}
 use Rattle.act1_ample.proofs.Answering.{wide_is_answered, enough_is_not_spent}
-use Rattle.act1_flow.specs.Sure.{FlowSucceeds, FlowIsNotSpent}
+use Rattle.act1_extract.specs.Laws.{FormedAreExtracted}
+use Rattle.act1_flow.specs.Sure.{FlowSucceeds, FlowIsExtracted, FlowIsNotSpent}
 
 module _ (dev : Device) (net : Blif) (settings : Settings) (ample : IsAmple dev net) where
   plan_routes : (plan : Plan) → IsPlanFor dev net settings plan → RoutesWidely dev plan
@@ -79,3 +80,9 @@ flow_is_not_spent dev net settings (Err (stop.Refuted report connections)) h = t
 flow_is_not_spent dev net settings (Err (stop.Spent plan channel conflicts tracks connections)) h =
     λ enough. enough_is_not_spent h.1 settings.budget conflicts (enough h.2.channels channel h.1 h.2.routed h.2.at) h.2.is
 flow_is_not_spent dev net settings (Err stop.Memory) h = tt
+
+-- the array of the file is sound, in pair form and without a clash
+pub flow_is_extracted : FormedAreExtracted → FlowIsExtracted
+flow_is_extracted law dev net settings (Ok routed) (pads, realizes) =
+    law dev routed.fuses realizes.keeps (record { placed = realizes.array; circuit = record { sound = realizes.sound; is = realizes.is }; form = realizes.plan.form; clear = realizes.plan.clear })
+flow_is_extracted law dev net settings (Err why) h = tt

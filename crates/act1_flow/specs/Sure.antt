@@ -1,4 +1,4 @@
--- What is sure of the flow: where its searches aren't spent, and that it succeeds on an ample device.
+-- What is sure of the flow: where its searches aren't spent, that it succeeds on an ample device, and that what it gives can be extracted.
 use Rattle.std.specs.Prelude.{ℕ, ◌≡◌, ◌+◌, ◌^◌, ◌≤◌, ◌⊎◌, List, length, Result, Ok, Err}
 use Rattle.act1_blif.specs.declared.blif.Blif.{Blif}
 use Rattle.act1_device.specs.declared.device.Device.{Device}
@@ -7,6 +7,9 @@ use Rattle.act1_plan.specs.declared.plan.Plan.{Plan}
 use Rattle.act1_groute.specs.declared.wiring.Wiring.{Wiring}
 use Rattle.act1_groute.specs.Routes.{routes}
 use Rattle.act1_ample.specs.Ample.{IsAmple}
+use Rattle.act1_extract.specs.declared.fault.ExtractFault.{ExtractFault}
+use Rattle.act1_extract.specs.Gives.{ExtractGives}
+use Rattle.act1_extract.specs.Laws.{IsNetOrMemory}
 use Rattle.act1_flow.specs.declared.answer.FlowStop.{FlowStop}
 use Rattle.act1_flow.specs.declared.answer.FlowStop.TheVariants as stop
 use Rattle.act1_flow.specs.declared.answer.Routed.{Routed}
@@ -26,6 +29,11 @@ abbrev pub IsUnspent : Device → ℕ → Result Routed FlowStop → Type 0
 IsUnspent dev budget (Err (stop.Spent plan channel conflicts tracks connections)) = IsEnoughFor dev plan budget → ⊥
 IsUnspent dev budget _ = Unit {0}
 
+-- the extraction of the antifuse file answers a netlist, or finds no memory
+abbrev pub IsExtractable : Device → Result Routed FlowStop → Type 0
+IsExtractable dev (Ok routed) = (answer : Result Blif ExtractFault) → ExtractGives dev routed.fuses answer → IsNetOrMemory answer
+IsExtractable dev (Err why) = Unit {0}
+
 -- on a device that is ample for the netlist the flow gives an antifuse file or finds no memory, whatever its settings
 abbrev pub FlowSucceeds : Type 0
 FlowSucceeds = (dev : Device) (net : Blif) (settings : Settings) (r : Result Routed FlowStop) → IsAmple dev net → FlowGives dev net settings r → IsRoutedOrMemory r
@@ -33,3 +41,7 @@ FlowSucceeds = (dev : Device) (net : Blif) (settings : Settings) (r : Result Rou
 -- where the budget is enough for a plan, the flow doesn't answer that a search of it is spent
 abbrev pub FlowIsNotSpent : Type 0
 FlowIsNotSpent = (dev : Device) (net : Blif) (settings : Settings) (r : Result Routed FlowStop) → FlowGives dev net settings r → IsUnspent dev settings.budget r
+
+-- each antifuse file that the flow gives is extracted
+abbrev pub FlowIsExtracted : Type 0
+FlowIsExtracted = (dev : Device) (net : Blif) (settings : Settings) (r : Result Routed FlowStop) → FlowGives dev net settings r → IsExtractable dev r

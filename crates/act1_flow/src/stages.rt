@@ -1,7 +1,7 @@
 ghost use Rattle.std.specs.Prelude.{◌≡◌, ◌<◌, ◌≤◌, IfErr, IfOk, OnOk};
 ghost use Rattle.act1_flow.specs.Flow.{FlowGives, HasPads};
 ghost use Rattle.act1_flow.specs.Steps.{IsProgrammed, OnPads, flow_stop};
-ghost use Rattle.act1_flow.specs.Sure.{IsRoutedOrMemory, IsUnspent};
+ghost use Rattle.act1_flow.specs.Sure.{IsExtractable, IsRoutedOrMemory, IsUnspent};
 ghost use Rattle.act1_ample.specs.Ample.{IsAmple};
 ghost use Rattle.act1_emit.specs.File.{HasTracks};
 
@@ -106,7 +106,7 @@ fn flow_in_stages(
 /// Turns a netlist into an antifuse file for a device, or says why there is none. On a device that is ample for the
 /// netlist (sites at least its need, pads at least its inputs and outputs, and as many unbroken tracks in each channel and
 /// long wires over all channels as its inputs and need together) there always is one, unless no memory is found, whatever
-/// the settings.
+/// the settings. What `extract` of `act1_extract` answers to the antifuse file is a netlist, or want of memory.
 ///
 /// Errors, the first of these that is the case. `Pads` where the netlist has more inputs and outputs than the device pads;
 /// `Full` where the modules that it is mapped to, at most its least count, are more than the sites; `Vertical` where the
@@ -126,6 +126,7 @@ pub fn flow(
     ensures gives { FlowGives device.now net.now settings.now result }
     ensures ample { IsAmple device.now net.now → IsRoutedOrMemory result }
     ensures unspent { IsUnspent device.now settings.now.budget result }
+    ensures extracts { IsExtractable device.now result }
 {
     flow_is_sure();
     flow_in_stages(alloc, device, net, settings)

@@ -16,7 +16,7 @@
 //! | `cut N` | the last file ends after N bytes |
 //! | `fail files N`, `fail print N` | the Nth call of the files, or of what is printed to, fails |
 //! | `case TEXT` | the row is run once for each case, which stands wherever the row has an `@` |
-//! | `statuses` | of each case only the status is shown |
+//! | `printed`, `statuses` | of each answer only the status and what was printed are shown, or only the status |
 //! | `cuts NAME` | the row is run once for each front of this file, from none of its bytes to all |
 //!
 //! In a TEXT the word `/` ends a line, as does the end of the text; the word `%end` at its end says that

@@ -1,6 +1,6 @@
-use crate::answer::answer_of;
+use crate::answer::{Answer, answer_of};
 use crate::fault::{Fault, Stop};
-use crate::rows::{NumberedLine, Row};
+use crate::rows::{NumberedLine, Row, Shown};
 use crate::setting::Setting;
 use crate::show::{short_answer, show_answer};
 use std::alloc::{AllocError, Global};
@@ -71,6 +71,18 @@ fn show_range(out: &mut String, range: &CutRange) -> Result<(), AllocError> {
     } else {
         writeln!(out, "{first} to {last}: {answer}")
     }
+}
+
+// What a setting's run answers, as far as it is shown.
+fn shown_of(alloc: Global, setting: &Setting, shown: Shown) -> Result<Answer, Fault> {
+    let mut answer = answer_of(alloc, setting)?;
+    if shown != Shown::Whole {
+        answer.changed = Vec::new(alloc);
+    }
+    if shown == Shown::Status {
+        answer.printed = Vec::new(alloc);
+    }
+    Ok(answer)
 }
 
 // What a setting's run answers, in one line.
@@ -145,13 +157,9 @@ fn play_case<R: Files>(
     out: &mut String,
 ) -> Result<(), Stop> {
     let setting = setting_of(rt, alloc, head, row, case)?;
-    let answer = answer_of(alloc, &setting)?;
-    if row.statuses {
-        writeln!(out, "{case} => {}", answer.status)?;
-    } else {
-        let short = short_answer(alloc, &answer)?;
-        writeln!(out, "{case} => {short}")?;
-    }
+    let answer = shown_of(alloc, &setting, row.shown)?;
+    let short = short_answer(alloc, &answer)?;
+    writeln!(out, "{case} => {short}")?;
     Ok(())
 }
 
@@ -166,7 +174,7 @@ fn play_whole<R: Files>(
     let mut setting = setting_of(rt, alloc, head, row, "")?;
     match row.cuts {
         Some(name) => play_cuts(alloc, &mut setting, name, out)?,
-        None => show_answer(out, &answer_of(alloc, &setting)?)?,
+        None => show_answer(out, &shown_of(alloc, &setting, row.shown)?)?,
     }
     Ok(())
 }

@@ -9,6 +9,17 @@ pub struct NumberedLine<'a> {
     pub text: &'a str,
 }
 
+/// How much of an answer is shown.
+#[derive(Clone, Copy, Debug, PartialEq, Eq)]
+pub enum Shown {
+    /// The status, what was printed, and the files that changed.
+    Whole,
+    /// The status and what was printed.
+    Printed,
+    /// The status.
+    Status,
+}
+
 /// A row: the lines that say what is run, and how often it is run.
 #[derive(Drop)]
 pub struct Row<'a> {
@@ -20,8 +31,8 @@ pub struct Row<'a> {
     pub cases: Vec<&'a str>,
     /// The file each of whose fronts the row is run on.
     pub cuts: Option<&'a str>,
-    /// Whether only the status of each case is shown.
-    pub statuses: bool,
+    /// How much of each answer is shown.
+    pub shown: Shown,
 }
 
 /// The rows of a file, and the lines before the first.
@@ -41,7 +52,7 @@ impl<'a> Row<'a> {
             lines: Vec::new(alloc),
             cases: Vec::new(alloc),
             cuts: None,
-            statuses: false,
+            shown: Shown::Whole,
         }
     }
 
@@ -52,7 +63,9 @@ impl<'a> Row<'a> {
         } else if let Some(name) = line.text.strip_prefix("cuts ") {
             self.cuts = Some(name);
         } else if line.text == "statuses" {
-            self.statuses = true;
+            self.shown = Shown::Status;
+        } else if line.text == "printed" {
+            self.shown = Shown::Printed;
         } else {
             self.lines.push(line)?;
         }

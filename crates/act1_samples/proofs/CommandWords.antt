@@ -1,9 +1,9 @@
 -- What words of the command line ask for: files, options with their defaults and ranges, and what no command takes.
 use Rattle.std.proofs.Common.{◌≡◌, true, false, List, [], ◌∷◌, codes, refl}
 use Rattle.clap.proofs.OnLiterals.{clap_on_literals}
-use Rattle.act1_words.specs.Commands.{command_of, blif_app, flow_app, search_app, sim_app}
-use Rattle.act1_words.specs.Given.{file_rule, number_rule, plain_app, text_rule}
-use Rattle.act1_words.specs.declared.command.Command.TheVariants.{Unknown, Flow, Sim, Search, Blif}
+use Rattle.act1_words.specs.Commands.{command_of, blif_app, demo_app, extract_app, flow_app, search_app, sim_app}
+use Rattle.act1_words.specs.Given.{count_rule, file_rule, number_rule, plain_app, text_rule}
+use Rattle.act1_words.specs.declared.command.Command.TheVariants.{Unknown, Flow, Sim, Extract, Search, Blif, Demo}
 
 with_defaults : command_of (codes "flow" ∷ codes "d" ∷ codes "b" ∷ codes "f" ∷ codes "r" ∷ [])
     ≡ Flow (record { device = codes "d"; blif = codes "b"; fuses = codes "f"; report = codes "r"; k = 3; budget = 100000; seed = 0; jobs = 0; program = [] })
@@ -43,6 +43,18 @@ help : command_of (codes "blif" ∷ codes "--help" ∷ []) ≡ Unknown
 unfolding command_of blif_app file_rule plain_app clap_on_literals
 help = refl
 
-another : command_of (codes "extract" ∷ codes "d" ∷ codes "f" ∷ codes "b" ∷ []) ≡ Unknown
+extracted : command_of (codes "extract" ∷ codes "d" ∷ codes "f" ∷ codes "b" ∷ []) ≡ Extract (record { device = codes "d"; fuses = codes "f"; blif = codes "b" })
+unfolding command_of extract_app file_rule plain_app clap_on_literals
+extracted = refl
+
+counter : command_of (codes "demo" ∷ codes "d" ∷ codes "+08" ∷ codes "f" ∷ []) ≡ Demo (record { device = codes "d"; bits = 8; fuses = codes "f" })
+unfolding command_of demo_app count_rule file_rule plain_app clap_on_literals
+counter = refl
+
+bits_of_65 : command_of (codes "demo" ∷ codes "d" ∷ codes "65" ∷ codes "f" ∷ []) ≡ Unknown
+unfolding command_of demo_app count_rule file_rule plain_app clap_on_literals
+bits_of_65 = refl
+
+another : command_of (codes "route" ∷ codes "d" ∷ codes "f" ∷ codes "b" ∷ []) ≡ Unknown
 unfolding command_of
 another = refl

@@ -32,19 +32,11 @@ use Rattle.act1_frame.proofs.Runs.{IsLawful, IsSaid, done_said, said_at, file_wr
 use Rattle.act1_frame.proofs.Stages.{reads_after}
 use Rattle.act1_words.specs.declared.command.FlowWords.{FlowWords}
 use Rattle.act1_top.specs.Files.{file_of, DeviceRefused, NetlistRefused}
-use Rattle.act1_top.specs.FlowCommand.{IsCause, flow_reads, flow_writes, flow_writes_at, settings_of, done_text, needed_text, refuted_text, spent_text, vertical_text, routed_ending, refuted_ending, stop_ending, unbuilt_ending, FlowEnds, FlowStages, FlowMayEnd, FlowIsChosen, FlowReads, HasAssignment, FlowIsDone, FlowIsVertical, FlowIsRefuted, FlowIsSpent}
+use Rattle.act1_top.specs.FlowCommand.{flow_reads, flow_writes, flow_writes_at, settings_of, done_text, needed_text, refuted_text, spent_text, vertical_text, routed_ending, refuted_ending, stop_ending, unbuilt_ending, FlowEnds, FlowStages, FlowMayEnd, FlowIsChosen, FlowReads, FlowIsDone, FlowIsVertical, FlowIsRefuted, FlowIsSpent}
 use Rattle.act1_top.specs.Laws.{TextsAreOne}
+use Rattle.act1_top.proofs.FlowAnswers.{refutation, spending}
 use Rattle.act1_top.proofs.Places.{first_of, second_of}
 use Rattle.act1_top.proofs.TextsRead.{device_exact, netlist_exact, device_fine, netlist_fine, device_apart, netlist_apart}
-
--- what isn't want of memory is a cause
-pub cause_is : (dev : Device) (net : Blif) (settings : Settings) (why : FlowStop) → IsCause why → FlowGives dev net settings (Err why) → IsStop dev net settings why
-cause_is dev net settings (stop.Pads needed have) c h = h
-cause_is dev net settings (stop.Full needed have) c h = h
-cause_is dev net settings (stop.Vertical source channel plan) c h = h
-cause_is dev net settings (stop.Refuted report connections) c h = h
-cause_is dev net settings (stop.Spent plan channel conflicts tracks connections) c h = h
-cause_is dev net settings stop.Memory c h = absurd c
 
 -- the stages behind the device file
 abbrev pub Rest : FlowWords → Shelf → Shelf → Device → Ending → Type 0
@@ -128,10 +120,10 @@ stages_after words before mid after same =
     (λ dev. reads_after before mid after same BlifText NetlistRefused (file_of words.blif) (FlowEnds words dev) (FlowEnds words dev) (λ net e k. k))
 
 -- endings of one status, or two between which the flow may choose
-abbrev Same : Ending → Ending → Type 0
+abbrev pub Same : Ending → Ending → Type 0
 Same e p = (e.status ≡ p.status) ⊎ (FlowIsChosen e × FlowIsChosen p)
 
-one_status : (e p : Ending) → e.status ≡ p.status → Same e p
+pub one_status : (e p : Ending) → e.status ≡ p.status → Same e p
 one_status e p h = inl h
 
 stages_one : TextsAreOne → (words : FlowWords) (before after : Shelf) → IsTrue before.tells → (HasReadFault (flow_reads words) before after → ⊥) → (e p : Ending) → FlowStages words before after e → FlowStages words before after p → Same e p
@@ -262,10 +254,6 @@ module _ (words : FlowWords) (before : World) (result : ℕ) (after : World) (e 
       by stop.Memory h is n = absurd h
 
   module _ (laws : TextsAreOne) where
-    -- a channel before has an assignment
-    assigned : (dev : Device) (plan : Plan) (channels : List (List Wiring)) (budget h : ℕ) → IsAssigned dev plan channels budget h → HasAssignment dev plan channels h
-    assigned dev plan channels budget h a = record { problem = a.problem; tracks = a.tracks; at = a.at; assigns = laws.fit a.problem a.answer.0 a.tracks a.answer.1 }
-
     refuted_by : (s : Behind) → FlowEnds words s.dev s.net e → e.status ≡ 10 → result ≡ 10 → FlowIsRefuted words before after
     refuted_by s (inr (pads, file, modules, realizes, is)) ten r = let nought = status_of e (routed_ending words.fuses file modules) is in absurd (omega (arith, ten))
     refuted_by s (inl (why, h, is)) ten r = by why h is (sym (status_is words.report why e is) ∙ ten)
@@ -280,19 +268,10 @@ module _ (words : FlowWords) (before : World) (result : ℕ) (after : World) (e 
               dev = s.dev;
               net = s.net;
               report = report;
-              channels = first.channels;
               problem = problem;
               read = read_of s;
               written = w.holds;
-              plan = first.plan_is;
-              routed = first.routed;
-              before_it = λ k low. (first.before k low, assigned s.dev report.plan first.channels words.budget k (first.before k low));
-              at = first.at;
-              accepted = first.is.2;
-              ends = first.is.0;
-              few = first.is.1;
-              none = laws.logs_refute problem report.log.steps first.is.2;
-              checked = checked;
+              refuted = refutation laws s.dev s.net (settings_of words) report problem first checked;
               printed = subst (λ (m : ℕ). PrintsAll (refuted_text report.channel m (length report.log.steps)) before.paper after.paper) count
                   (subst (λ (t : List ℕ). PrintsAll t before.paper after.paper) (ap (λ (p : Ending). p.text) is) w.printed);
             }
@@ -315,17 +294,9 @@ module _ (words : FlowWords) (before : World) (result : ℕ) (after : World) (e 
               net = s.net;
               plan = plan;
               channel = channel;
-              channels = first.channels;
               problem = problem;
-              chosen = first.is.2.0;
               read = read_of s;
-              plan_is = first.plan_is;
-              routed = first.routed;
-              before_it = λ k low. (first.before k low, assigned s.dev plan first.channels words.budget k (first.before k low));
-              at = first.at;
-              conflict = first.is.2.1;
-              unfinished = first.is.2.2;
-              short = first.is.1;
+              spent = spending laws s.dev s.net (settings_of words) plan channel conflicts problem first;
               printed = subst (λ (m : ℕ). PrintsAll (spent_text channel words.budget (length problem.tracks) m plan) before.paper after.paper) count
                   (subst (λ (m : ℕ). PrintsAll (spent_text channel words.budget m connections plan) before.paper after.paper) tracks_is
                   (subst (λ (m : ℕ). PrintsAll (spent_text channel m tracks connections plan) before.paper after.paper) first.is.0 text));

@@ -2,6 +2,9 @@ pub mod BlifLaws
 pub mod CheckLaws
 pub mod Commands
 pub mod CoverLaws
+pub mod DemoLaws
+pub mod ExtractLaws
+pub mod FlowAnswers
 pub mod FlowLaws
 pub mod FlowSure
 pub mod Places

@@ -1,5 +1,5 @@
 -- The command `flow`.
-use Rattle.std.specs.Prelude.{ℕ, ◌≡◌, ◌≢◌, ◌≤◌, ◌<◌, ◌+◌, ◌^◌, ◌⊎◌, ◌==◌, if◌then◌else◌, List, [], ◌∷◌, ◌++◌, length, codes, Some, Ok, Err}
+use Rattle.std.specs.Prelude.{ℕ, ◌≡◌, ◌<◌, ◌⊎◌, ◌==◌, if◌then◌else◌, List, [], ◌∷◌, ◌++◌, length, codes, Some, Ok, Err}
 use Rattle.std.specs.Fmt.{decimal}
 use Rattle.act1_base.specs.Words.{text_line}
 use Rattle.act1_outside.specs.Outside.{Shelf}
@@ -7,10 +7,7 @@ use Rattle.act1_device.specs.declared.device.Device.{Device}
 use Rattle.act1_devread.specs.Text.{DeviceText}
 use Rattle.act1_blif.specs.declared.blif.Blif.{Blif}
 use Rattle.act1_blifread.specs.Text.{BlifText}
-use Rattle.act1_channel.specs.declared.problem.Choice.{Choice}
 use Rattle.act1_channel.specs.declared.problem.Problem.{Problem}
-use Rattle.act1_channel.specs.Acceptance.{IsAccepted, choices_of}
-use Rattle.act1_channel.specs.Assignment.{Assigns}
 use Rattle.act1_circuit.specs.declared.circuit.Placed.{Placed}
 use Rattle.act1_circuit.specs.declared.circuit.Source.{Source}
 use Rattle.act1_circuit.specs.SourceWords.{source_word}
@@ -19,14 +16,11 @@ use Rattle.act1_fuses.specs.declared.fuses.FuseFile.{FuseFile}
 use Rattle.act1_fuses.specs.Array.{Sound, IsCircuitOf}
 use Rattle.act1_fuses.specs.Rules.{KeepsRules}
 use Rattle.act1_fuses.specs.Text.{fuse_text}
-use Rattle.act1_groute.specs.Routes.{routes}
-use Rattle.act1_groute.specs.declared.wiring.Wiring.{Wiring}
 use Rattle.act1_plan.specs.declared.plan.Plan.{Plan}
 use Rattle.act1_plan.specs.Texts.{plan_text}
 use Rattle.act1_report.specs.declared.report.Report.{Report}
 use Rattle.act1_report.specs.Texts.{report_text}
-use Rattle.act1_search.specs.Search.{EndsRefuted, HasConflict}
-use Rattle.act1_flow.specs.Flow.{HasPads, IsAssigned, IsChecked, IsProblemAt, IsStop, IsVertical}
+use Rattle.act1_flow.specs.Flow.{HasPads, IsStop, IsVertical}
 use Rattle.act1_flow.specs.Realizes.{Realizes, IsPlanFor, IsEmission, plan_with}
 use Rattle.act1_flow.specs.declared.answer.FlowStop.{FlowStop}
 use Rattle.act1_flow.specs.declared.answer.FlowStop.TheVariants as stop
@@ -39,6 +33,7 @@ use Rattle.act1_frame.specs.Stages.{Reads}
 use Rattle.act1_frame.specs.World.{World}
 use Rattle.act1_words.specs.declared.command.FlowWords.{FlowWords}
 use Rattle.act1_top.specs.Files.{file_of, DeviceRefused, NetlistRefused}
+use Rattle.act1_top.specs.FlowAnswers.{IsRefutation, IsSpending}
 
 -- the files that it reads and writes, and those that it writes at a status
 abbrev pub flow_reads : FlowWords → List Wanted
@@ -148,13 +143,6 @@ sites_ending needed have = with_text 8 (needed_text (codes "sites") needed have)
 abbrev pub FlowIsChosen : Ending → Type 0
 FlowIsChosen e = (e.status ≡ 0) ⊎ ((e.status ≡ 9) ⊎ ((e.status ≡ 10) ⊎ ((e.status ≡ 11) ⊎ ((needed : ℕ) × (have : ℕ) × (e ≡ sites_ending needed have)))))
 
--- the problem of a channel of a routed plan has an assignment
-pub record HasAssignment (dev : Device) (plan : Plan) (channels : List (List Wiring)) (channel : ℕ) : Type 0 where
-  pub problem : Problem
-  pub tracks : List ℕ
-  pub at : IsProblemAt dev plan channels channel problem
-  pub assigns : Assigns problem tracks
-
 -- what was read: the bytes under DEVICE are this device's text, and those under BLIF this netlist's
 pub record FlowReads (words : FlowWords) (before : World) (dev : Device) (net : Blif) : Type 0 where
   pub device_bytes : List ℕ
@@ -196,19 +184,10 @@ pub record FlowIsRefuted (words : FlowWords) (before after : World) : Type 0 whe
   pub dev : Device
   pub net : Blif
   pub report : Report
-  pub channels : List (List Wiring)
   pub problem : Problem
   pub read : FlowReads words before dev net
   pub written : NowHolds words.report (report_text report) before.shelf after.shelf
-  pub plan : IsPlanFor dev net (settings_of words) report.plan
-  pub routed : routes dev report.plan ≡ Ok channels
-  pub before_it : (h : ℕ) → h < report.channel → IsAssigned dev report.plan channels words.budget h × HasAssignment dev report.plan channels h
-  pub at : IsProblemAt dev report.plan channels report.channel problem
-  pub accepted : IsAccepted problem report.log.steps
-  pub ends : EndsRefuted problem (choices_of report.log.steps)
-  pub few : length report.log.steps ≤ words.budget
-  pub none : (tracks : List ℕ) → Assigns problem tracks → ⊥
-  pub checked : IsChecked dev report
+  pub refuted : IsRefutation dev net (settings_of words) report problem
   pub printed : PrintsAll (refuted_text report.channel (length problem.connections) (length report.log.steps)) before.paper after.paper
 
 -- A search that is spent. What is printed are the channel, the budget, the numbers of its tracks and connections, and the plan, which is as above. The search of each channel before it ends with an assignment within the budget; the conflict of the budget's number has choices, and so the budget is below `(1 + T)^n`, T the number of tracks and n that of connections.
@@ -217,15 +196,7 @@ pub record FlowIsSpent (words : FlowWords) (before after : World) : Type 0 where
   pub net : Blif
   pub plan : Plan
   pub channel : ℕ
-  pub channels : List (List Wiring)
   pub problem : Problem
-  pub chosen : List Choice
   pub read : FlowReads words before dev net
-  pub plan_is : IsPlanFor dev net (settings_of words) plan
-  pub routed : routes dev plan ≡ Ok channels
-  pub before_it : (h : ℕ) → h < channel → IsAssigned dev plan channels words.budget h × HasAssignment dev plan channels h
-  pub at : IsProblemAt dev plan channels channel problem
-  pub conflict : HasConflict problem words.budget chosen
-  pub unfinished : chosen ≢ []
-  pub short : words.budget < (1 + length problem.tracks) ^ length problem.connections
+  pub spent : IsSpending dev net (settings_of words) plan channel problem
   pub printed : PrintsAll (spent_text channel words.budget (length problem.tracks) (length problem.connections) plan) before.paper after.paper

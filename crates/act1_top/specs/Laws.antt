@@ -7,9 +7,10 @@ use Rattle.act1_job.specs.Laws as job
 use Rattle.act1_channel.specs.Laws as channel
 use Rattle.act1_search.specs.Exact as search
 use Rattle.act1_report.specs.Laws as report
+use Rattle.act1_extract.specs.Laws as extract
 use Rattle.act1_flow.specs.Sure as flow
 
--- no text is both accepted and refused, and each is of one device, netlist, antifuse file or job; an array has one answer to a text of vectors, the search for a job one end, and the check of a report one answer; on an ample device the flow succeeds, and it isn't spent where the budget is enough
+-- no text is both accepted and refused, and each is of one device, netlist, antifuse file or job; an array has one answer to a text of vectors, the search for a job one end, and the check of a report one answer, and no array is both extracted and refused; on an ample device the flow succeeds, and it isn't spent where the budget is enough
 pub record TextsAreOne : Type 0 where
   pub device_never : device.NeverBoth
   pub one_device : device.OneDevice
@@ -27,3 +28,4 @@ pub record TextsAreOne : Type 0 where
   pub one_report_answer : report.OneAnswer
   pub ample : flow.FlowSucceeds
   pub unspent : flow.FlowIsNotSpent
+  pub extract_never : extract.NeverBoth

@@ -1,7 +1,10 @@
 pub mod BlifCommand
 pub mod CheckCommand
 pub mod CoverCommand
+pub mod DemoCommand
+pub mod ExtractCommand
 pub mod Files
+pub mod FlowAnswers
 pub mod FlowCommand
 pub mod Laws
 pub mod Run

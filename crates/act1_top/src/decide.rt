@@ -8,6 +8,8 @@ ghost use Rattle.act1_words.specs.Commands.{command_of, AreInRanges};
 use crate::blif_command::blif_ending;
 use crate::check_command::check_ending;
 use crate::cover_command::cover_ending;
+use crate::demo_command::demo_ending;
+use crate::extract_command::extract_ending;
 use crate::flow_command::flow_ending;
 use crate::search_command::search_ending;
 use crate::sim_command::sim_ending;
@@ -40,10 +42,12 @@ fn ending_of<F: Files>(alloc: Global, files: &mut F, command: &Command) -> Resul
         Command::Unknown => Ok(usage_ending(alloc)?),
         Command::Flow(words) => flow_ending(alloc, files, words),
         Command::Sim(words) => sim_ending(alloc, files, words),
+        Command::Extract(words) => extract_ending(alloc, files, words),
         Command::Check(words) => check_ending(alloc, files, words),
         Command::Search(words) => search_ending(alloc, files, words),
         Command::Cover(words) => cover_ending(alloc, files, words),
         Command::Blif(words) => blif_ending(alloc, files, words),
+        Command::Demo(words) => demo_ending(alloc, files, words),
     }
 }
 

@@ -1,11 +1,14 @@
 ghost use Rattle.std.specs.Prelude.{◌≡◌, ◌∷◌, [], ◌++◌, codes, OnOk};
 ghost use Rattle.act1_circuit.specs.SourceWords.{source_word};
 ghost use Rattle.act1_plan.specs.Texts.{plan_text as plan_bytes};
+ghost use Rattle.act1_top.specs.DemoCommand.{demo_line, demo_refuted_text, demo_spent_text};
+ghost use Rattle.act1_top.specs.ExtractCommand.{extracted_text};
 ghost use Rattle.act1_top.specs.FlowCommand.{counted, done_text, helpers_text, needed_text, refuted_text, spent_line, spent_text, unroutable_line, vertical_text};
 
 use act1_base::{Memory, add_number, add_word, write_word};
 use act1_circuit::{Source, add_source};
 use act1_plan::{Plan, plan_text};
+use act1_report::{Report, report_text};
 use std::alloc::Global;
 
 // Adds a number, with its name in front.
@@ -108,6 +111,14 @@ pub fn write_done(text: &mut Vec<u8>, modules: u16, antifuses: u64) -> Result<()
     text.extend_from_slice(b"done")?;
     add_two(text, b"modules", u64::from(modules), b"fuses", antifuses)?;
     add_tally(text)
+}
+
+/// Adds what is printed of a netlist that was extracted.
+pub fn write_extracted(text: &mut Vec<u8>, latches: u64, nodes: u64) -> Result<(), Memory>
+    ensures { OnOk result (text.new.items ≡ text.old.items ++ extracted_text latches nodes) }
+{
+    text.extend_from_slice(b"extracted")?;
+    add_two(text, b"latches", latches, b"nodes", nodes)
 }
 
 /// Adds what is printed of pads or sites that are too few.
@@ -216,4 +227,61 @@ pub fn write_spent(
     )?;
     add_plan(alloc, text, plan)?;
     add_tally(text)
+}
+
+/// Adds the line of a demo that is done: the numbers of its bits, modules and antifuses.
+#[tactic(auto, unfolding(crate::specs::DemoCommand::demo_line))]
+pub fn write_demo_line(
+    text: &mut Vec<u8>,
+    bits: u64,
+    modules: u64,
+    antifuses: u64,
+) -> Result<(), Memory>
+    ensures { OnOk result (text.new.items ≡ text.old.items ++ demo_line bits «modules» antifuses) }
+{
+    write_three(
+        text, b"demo", b"bits", bits, b"modules", modules, b"fuses", antifuses,
+    )
+}
+
+/// Adds what a demo prints of a channel that has no assignment: its line, and the text of the report.
+pub fn write_demo_refuted(
+    alloc: Global,
+    text: &mut Vec<u8>,
+    report: &Report,
+    connections: u16,
+) -> Result<(), Memory>
+    ensures { OnOk result (text.new.items ≡ text.old.items ++ demo_refuted_text report.now connections) }
+{
+    write_unroutable(
+        text,
+        u64::from(report.channel),
+        u64::from(connections),
+        report.log.steps.len() as u64,
+    )?;
+    let bytes = report_text(alloc, report)?;
+    text.extend_from_slice(&bytes)?;
+    Ok(())
+}
+
+/// Adds what a demo prints of a channel whose search spent its budget: its line, and the plan.
+pub fn write_demo_spent(
+    alloc: Global,
+    text: &mut Vec<u8>,
+    channel: u8,
+    conflicts: u64,
+    tracks: u8,
+    connections: u16,
+    plan: &Plan,
+) -> Result<(), Memory>
+    ensures { OnOk result (text.new.items ≡ text.old.items ++ demo_spent_text channel conflicts tracks connections plan.now) }
+{
+    write_spent_line(
+        text,
+        u64::from(channel),
+        conflicts,
+        u64::from(tracks),
+        u64::from(connections),
+    )?;
+    add_plan(alloc, text, plan)
 }

@@ -3,6 +3,7 @@ ghost use Rattle.act1_top.specs.Laws.{TextsAreOne};
 use act1_blifread::blif_texts_are_exact;
 use act1_channel::accepted_logs_refute;
 use act1_devread::texts_are_exact;
+use act1_extract::one_answer as one_extraction;
 use act1_flow::flow_is_sure;
 use act1_fuses::fuse_texts_are_exact;
 use act1_job::job_texts_are_exact;
@@ -12,7 +13,8 @@ use act1_sim::one_answer;
 
 /// The law of what commands read and find: no text is both accepted and refused, each is of one device,
 /// netlist, antifuse file or job; an array has one answer to a text of vectors, the search for a job one end,
-/// and the check of a report one answer. On an ample device the flow succeeds, and its searches aren't spent where
+/// the check of a report one answer, and an array is extracted or
+/// refused. On an ample device the flow succeeds, and its searches aren't spent where
 /// the budget is enough.
 pub fn texts_are_one()
     ensures { TextsAreOne }
@@ -25,5 +27,6 @@ pub fn texts_are_one()
     accepted_logs_refute();
     answers_are_exact();
     one_report_answer();
+    one_extraction();
     flow_is_sure();
 }

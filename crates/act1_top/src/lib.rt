@@ -5,6 +5,8 @@ mod blif_command;
 mod check_command;
 mod cover_command;
 mod decide;
+mod demo_command;
+mod extract_command;
 mod flow_command;
 mod flow_lines;
 mod found;

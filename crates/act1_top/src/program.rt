@@ -25,7 +25,7 @@ pub fn run<F: Files, S: Sink, H: Helpers>(
 ) -> u8
     // Status 0 of `flow` is the headline, 9 a plan that the rule of routes fails for, 10 a plan with a channel that has no
     // assignment, and 11 one with a channel whose search spent its budget; status 0 of `sim`, `cover` and `blif` is what is
-    // printed, and that of `check` a report that is accepted. Status 0 of `search` is an assignment, 10 a refutation and 11
+    // printed, that of `check` a report that is accepted, and that of `extract` a netlist that the array means. Status 0 of `search` is an assignment, 10 a refutation and 11
     // a budget that is spent.
     ensures done { result ≡ 0 → IsDone (command_of (map string_bytes words.now)) (world_of (F.seen files.old) (S.seen out.old) (H.seen helpers.old)) (world_of (F.seen files.new) (S.seen out.new) (H.seen helpers.new)) }
     ensures vertical { result ≡ 9 → IsVertical (command_of (map string_bytes words.now)) (world_of (F.seen files.old) (S.seen out.old) (H.seen helpers.old)) (world_of (F.seen files.new) (S.seen out.new) (H.seen helpers.new)) }

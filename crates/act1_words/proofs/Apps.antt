@@ -3,8 +3,8 @@ use Rattle.std.proofs.Common.{◌≡◌, Bool, true, false, List, codes, Option,
 use Rattle.clap.specs.Words.{App, Text, first_value, found_of, is_simple_and_free, with_rule}
 use Rattle.clap.specs.declared.parser.matches.ArgMatches.{ArgMatches}
 use Rattle.clap.proofs.OnLiterals.{clap_on_literals}
-use Rattle.act1_words.specs.Commands.{blif_app, check_app, cover_app, flow_app, flow_words, search_app, sim_app, IsInRanges}
-use Rattle.act1_words.specs.Given.{Given, are_taken, file_rule, given_by, is_number, number_rule, plain_app, taken, text_rule, IsFoundOf, IsParseOf}
+use Rattle.act1_words.specs.Commands.{blif_app, check_app, cover_app, demo_app, demo_words, extract_app, flow_app, flow_words, search_app, sim_app, IsCountInRange, IsInRanges}
+use Rattle.act1_words.specs.Given.{Given, are_taken, count_rule, file_rule, given_by, is_number, number_rule, plain_app, taken, text_rule, IsFoundOf, IsParseOf}
 
 pub flow_steps : (plain device blif fuses report k budget seed jobs whole : App) → plain ≡ plain_app (codes "flow")
     → device ≡ with_rule plain (file_rule (codes "DEVICE"))
@@ -30,6 +30,15 @@ pub sim_steps : (plain device fuses vectors whole : App) → plain ≡ plain_app
 unfolding sim_app
 sim_steps plain device fuses vectors whole a b c d e =
     e ∙ ap (λ x. with_rule x (number_rule (codes "fill") 0 1 (codes "0"))) (d ∙ ap (λ x. with_rule x (file_rule (codes "VECTORS"))) (c ∙ ap (λ x. with_rule x (file_rule (codes "FUSES"))) (b ∙ ap (λ x. with_rule x (file_rule (codes "DEVICE"))) a)))
+
+pub extract_steps : (plain device fuses whole : App) → plain ≡ plain_app (codes "extract")
+    → device ≡ with_rule plain (file_rule (codes "DEVICE"))
+    → fuses ≡ with_rule device (file_rule (codes "FUSES"))
+    → whole ≡ with_rule fuses (file_rule (codes "BLIF"))
+    → whole ≡ extract_app
+unfolding extract_app
+extract_steps plain device fuses whole a b c d =
+    d ∙ ap (λ x. with_rule x (file_rule (codes "BLIF"))) (c ∙ ap (λ x. with_rule x (file_rule (codes "FUSES"))) (b ∙ ap (λ x. with_rule x (file_rule (codes "DEVICE"))) a))
 
 pub check_steps : (plain device whole : App) → plain ≡ plain_app (codes "check")
     → device ≡ with_rule plain (file_rule (codes "DEVICE"))
@@ -61,6 +70,15 @@ unfolding blif_app
 blif_steps plain whole a b =
     b ∙ ap (λ x. with_rule x (file_rule (codes "BLIF"))) a
 
+pub demo_steps : (plain device bits whole : App) → plain ≡ plain_app (codes "demo")
+    → device ≡ with_rule plain (file_rule (codes "DEVICE"))
+    → bits ≡ with_rule device (count_rule (codes "N") 1 64)
+    → whole ≡ with_rule bits (file_rule (codes "FUSES"))
+    → whole ≡ demo_app
+unfolding demo_app
+demo_steps plain device bits whole a b c d =
+    d ∙ ap (λ x. with_rule x (file_rule (codes "FUSES"))) (c ∙ ap (λ x. with_rule x (count_rule (codes "N") 1 64)) (b ∙ ap (λ x. with_rule x (file_rule (codes "DEVICE"))) a))
+
 flow_simple : is_simple_and_free flow_app ≡ true
 unfolding flow_app file_rule number_rule text_rule plain_app clap_on_literals
 flow_simple = refl
@@ -74,6 +92,13 @@ sim_simple = refl
 
 pub sim_is_simple : (app : App) → app ≡ sim_app → is_simple_and_free app ≡ true
 sim_is_simple app is = ap is_simple_and_free is ∙ sim_simple
+
+extract_simple : is_simple_and_free extract_app ≡ true
+unfolding extract_app file_rule plain_app clap_on_literals
+extract_simple = refl
+
+pub extract_is_simple : (app : App) → app ≡ extract_app → is_simple_and_free app ≡ true
+extract_is_simple app is = ap is_simple_and_free is ∙ extract_simple
 
 check_simple : is_simple_and_free check_app ≡ true
 unfolding check_app file_rule plain_app clap_on_literals
@@ -102,6 +127,17 @@ blif_simple = refl
 
 pub blif_is_simple : (app : App) → app ≡ blif_app → is_simple_and_free app ≡ true
 blif_is_simple app is = ap is_simple_and_free is ∙ blif_simple
+
+demo_simple : is_simple_and_free demo_app ≡ true
+unfolding demo_app count_rule file_rule plain_app clap_on_literals
+demo_simple = refl
+
+pub demo_is_simple : (app : App) → app ≡ demo_app → is_simple_and_free app ≡ true
+demo_is_simple app is = ap is_simple_and_free is ∙ demo_simple
+
+count_range : is_number (codes "N") 1 64 1 demo_app.top.rules ≡ true
+unfolding demo_app count_rule file_rule plain_app
+count_range = refl
 
 k_range : is_number (codes "k") 1 64 3 flow_app.top.rules ≡ true
 unfolding flow_app file_rule number_rule text_rule plain_app
@@ -145,3 +181,9 @@ in_ranges app is words m f =
     let budget = f.ranges (codes "budget") 1 1000000000000 100000 (ap (λ (a : App). is_number (codes "budget") 1 1000000000000 100000 a.top.rules) is ∙ budget_range) in
     let jobs = f.ranges (codes "jobs") 0 64 0 (ap (λ (a : App). is_number (codes "jobs") 0 64 0 a.top.rules) is ∙ jobs_range) in
     record { least_k = k.0; most_k = k.1; least_budget = budget.0; most_budget = budget.1; most_jobs = jobs.1 }
+
+-- so is that of `demo`
+pub count_in_range : (app : App) → app ≡ demo_app → (words : List Text) (m : ArgMatches) → IsFoundOf app words m → IsCountInRange (demo_words (first_value (found_of m)))
+count_in_range app is words m f =
+    let bits = f.ranges (codes "N") 1 64 1 (ap (λ (a : App). is_number (codes "N") 1 64 1 a.top.rules) is ∙ count_range) in
+    record { least = bits.0; most = bits.1 }

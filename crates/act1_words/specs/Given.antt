@@ -16,6 +16,10 @@ use Rattle.clap.specs.declared.parser.matches.ArgMatches.{ArgMatches}
 unfoldable pub file_rule : Text → Rule
 file_rule id = record (new_rule id) { required = true }
 
+-- a positional that has to be there, a number in a range
+unfoldable pub count_rule : Text → ℕ → ℕ → Rule
+count_rule id low high = record (new_rule id) { required = true; parser = Some (Unsigned low high) }
+
 -- an option of one text
 unfoldable pub text_rule : Text → Rule
 text_rule id = record (new_rule id) { long = Some id }

@@ -2,7 +2,7 @@ ghost use Rattle.std.specs.Prelude.{◌≡◌, true, false, map, string_bytes, I
 ghost use Rattle.std.specs.Option.{option_map_or};
 ghost use Rattle.clap.specs.Words.{app_of, first_value, found_of, is_simple_and_free, rule_of, with_rule};
 ghost use Rattle.act1_words.specs.Given as given;
-ghost use Rattle.act1_words.specs.Given.{file_rule, text_rule, number_rule, number_or_zero, plain_app, IsParseOf};
+ghost use Rattle.act1_words.specs.Given.{count_rule, file_rule, text_rule, number_rule, number_or_zero, plain_app, IsParseOf};
 
 use act1_base::Memory;
 use clap::builder::ValueParser;
@@ -47,6 +47,16 @@ fn number_argument<'a>(alloc: Global, id: &'a str, low: u64, high: u64, default:
         .default_value(default)
 }
 
+#[tactic(auto, unfolding(crate::specs::Given::count_rule))]
+fn count_argument<'a>(alloc: Global, id: &'a str, low: u64, high: u64) -> Arg<'a>
+    ensures rule { rule_of result ≡ count_rule id.entry.now low high }
+    ensures local { result.global ≡ false }
+{
+    Arg::new(alloc, id)
+        .required(true)
+        .value_parser(ValueParser::unsigned(low, high))
+}
+
 /// Adds a positional that has to be there.
 pub fn with_file<'a>(
     alloc: Global,
@@ -56,6 +66,19 @@ pub fn with_file<'a>(
     ensures { IfOk result (λ c. app_of c ≡ with_rule (app_of command.entry) (file_rule id.entry.now)) }
 {
     Ok(command.arg(file_argument(alloc, id))?)
+}
+
+/// Adds a positional that has to be there, a number in a range.
+pub fn with_count<'a>(
+    alloc: Global,
+    command: Command<'a>,
+    id: &'a str,
+    low: u64,
+    high: u64,
+) -> Result<Command<'a>, Memory>
+    ensures { IfOk result (λ c. app_of c ≡ with_rule (app_of command.entry) (count_rule id.entry.now low high)) }
+{
+    Ok(command.arg(count_argument(alloc, id, low, high))?)
 }
 
 /// Adds an option of one text.

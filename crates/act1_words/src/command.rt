@@ -9,7 +9,7 @@ pub struct FlowWords {
     pub blif: Word,
     /// The antifuse file, which is written at status 0.
     pub fuses: Word,
-    /// The report, which isn't written today.
+    /// The report, which is written at status 10.
     pub report: Word,
     /// The most segments that a connection takes on its track, 1 to 64; 3 where the words don't say it.
     pub k: u64,
@@ -36,6 +36,17 @@ pub struct SimWords {
     /// The value with which a module without a declared start begins: true for `--fill 1`; false where the words
     /// don't say it.
     pub fill: bool,
+}
+
+/// The words of `extract DEVICE FUSES BLIF`.
+#[derive(Debug, Drop)]
+pub struct ExtractWords {
+    /// The device file.
+    pub device: Word,
+    /// The antifuse file.
+    pub fuses: Word,
+    /// The netlist, which is written at status 0.
+    pub blif: Word,
 }
 
 /// The words of `check DEVICE REPORT`.
@@ -70,6 +81,17 @@ pub struct CoverWords {
     pub blif: Word,
 }
 
+/// The words of `demo DEVICE N FUSES`.
+#[derive(Debug, Drop)]
+pub struct DemoWords {
+    /// The device file.
+    pub device: Word,
+    /// How many bits the counter has, 1 to 64.
+    pub bits: u64,
+    /// The antifuse file, which is written at status 0.
+    pub fuses: Word,
+}
+
 /// What the words ask for.
 #[derive(Debug, Drop)]
 pub enum Command {
@@ -79,6 +101,8 @@ pub enum Command {
     Flow(FlowWords),
     /// Simulates the array of an antifuse file over vectors. It writes no file.
     Sim(SimWords),
+    /// Writes the netlist that the array of an antifuse file is.
+    Extract(ExtractWords),
     /// Checks a report: that a channel of its plan has no assignment. It writes no file.
     Check(CheckWords),
     /// Searches tracks for the connections of a channel, and writes the answer.
@@ -87,4 +111,6 @@ pub enum Command {
     Cover(CoverWords),
     /// Prints the canonical text of a netlist. It writes no file.
     Blif(BlifWords),
+    /// Takes a counter to an antifuse file for a device, and prints what it shows.
+    Demo(DemoWords),
 }

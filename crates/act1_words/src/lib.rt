@@ -6,11 +6,16 @@ mod blif_words;
 mod check_words;
 mod command;
 mod cover_words;
+mod demo_words;
+mod extract_words;
 mod flow_words;
 mod search_words;
 mod sim_words;
 mod words;
 
 pub use act1_frame::Word;
-pub use command::{BlifWords, CheckWords, Command, CoverWords, FlowWords, SearchWords, SimWords};
+pub use command::{
+    BlifWords, CheckWords, Command, CoverWords, DemoWords, ExtractWords, FlowWords, SearchWords,
+    SimWords,
+};
 pub use words::command_of;

@@ -5,6 +5,8 @@ use crate::blif_words::blif_command;
 use crate::check_words::check_command;
 use crate::command::Command;
 use crate::cover_words::cover_command;
+use crate::demo_words::demo_command;
+use crate::extract_words::extract_command;
 use crate::flow_words::flow_command;
 use crate::search_words::search_command;
 use crate::sim_words::sim_command;
@@ -14,7 +16,8 @@ use std::alloc::Global;
 /// The command that the words ask for, or `Unknown` where they ask for none.
 ///
 /// The first word names it: `flow DEVICE BLIF FUSES REPORT [--k N] [--budget N] [--seed N] [--jobs N] [--with
-/// PROGRAM]`, `sim DEVICE FUSES VECTORS [--fill N]`, `check DEVICE REPORT`, `search JOB ANSWER`, `cover BLIF` or `blif BLIF`. `clap`
+/// PROGRAM]`, `sim DEVICE FUSES VECTORS [--fill N]`, `extract DEVICE FUSES BLIF`, `check DEVICE REPORT`, `search JOB
+/// ANSWER`, `cover BLIF`, `blif BLIF` or `demo DEVICE N FUSES`. `clap`
 /// reads the words as one simple command of that name, without help and version flags: a word that begins with `-` is an option, but
 /// for `-` itself and what stands behind `--`; each option stands once at most, as `--k N` or `--k=N`, its number
 /// within its range. `Unknown` comes exactly where there is no such first word, `clap` refuses the words, or
@@ -31,6 +34,8 @@ pub fn command_of(alloc: Global, words: &[String]) -> Result<Command, Memory>
         flow_command(alloc, words)
     } else if word.as_str() == "sim" {
         sim_command(alloc, words)
+    } else if word.as_str() == "extract" {
+        extract_command(alloc, words)
     } else if word.as_str() == "check" {
         check_command(alloc, words)
     } else if word.as_str() == "search" {
@@ -39,6 +44,8 @@ pub fn command_of(alloc: Global, words: &[String]) -> Result<Command, Memory>
         cover_command(alloc, words)
     } else if word.as_str() == "blif" {
         blif_command(alloc, words)
+    } else if word.as_str() == "demo" {
+        demo_command(alloc, words)
     } else {
         Ok(Command::Unknown)
     }

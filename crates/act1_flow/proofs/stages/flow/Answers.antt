@@ -10,4 +10,5 @@ returns c =
       gives = gives;
       ample = λ ample. c.flow_is_sure.ensures.ample dev net settings c.flow_in_stages.result ample gives;
       unspent = c.flow_is_sure.ensures.unspent dev net settings c.flow_in_stages.result gives;
+      extracts = c.flow_is_sure.ensures.extracts dev net settings c.flow_in_stages.result gives;
     }

@@ -1,7 +1,7 @@
 use Rattle.std.proofs.Common.{inl, subst}
 use Rattle.act1_flow.specs.Flow.{IsStop}
 use Rattle.act1_flow.specs.declared.answer.Settings.{Settings}
-use Rattle.act1_top.proofs.FlowLaws.{cause_is}
+use Rattle.act1_top.proofs.FlowAnswers.{cause_is}
 use Rattle.act1_top.proofs.flow_command.flow_ends.Goals as goal
 
 pub returns-in_ok-stopped_ending-in-Err-clause-ok : goal.returns-in_ok-stopped_ending-in-Err-clause-ok

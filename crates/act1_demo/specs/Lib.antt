@@ -1,0 +1,4 @@
+pub mod Shown
+pub mod ShownSteps
+pub mod Text
+pub mod TextSteps

@@ -1,0 +1,7 @@
+use Rattle.clap.specs.Words.{app_of}
+use Rattle.act1_words.proofs.Apps.{demo_steps}
+use Rattle.act1_words.proofs.demo_words.demo_app.Goals as goal
+
+pub returns : goal.returns
+returns c = demo_steps (app_of c.plain_command-plain.result) (app_of c.in_ok-device.device) (app_of c.in_ok-bits.bits) (app_of c.in_ok-whole.whole)
+    c.plain_command-plain.ensures c.in_ok-device.ensures c.in_ok-bits.ensures c.in_ok-whole.ensures
