@@ -1,17 +1,19 @@
-//! The program act1: real files, standard output and the words of the command line for `run`.
+//! The program act1: real files, standard output, helpers that are programs, and the words of the command line for `run`.
 #![tactic(auto)]
 
+mod child_helpers;
 mod real_files;
 mod stdout_sink;
 #[cfg(test)]
 mod tests;
+mod whole_file;
 
-use act1_outside::NoHelpers;
 use act1_top::run;
+use child_helpers::ChildHelpers;
 use real_files::RealFiles;
 use std::alloc::{AllocError, Global};
 use std::process::ExitCode;
-use std::rt::{Env, Files};
+use std::rt::{Env, Files, Processes};
 use std::{env, io};
 use stdout_sink::StdoutSink;
 
@@ -34,11 +36,11 @@ fn words<R: Env + AllocGlobal>(rt: &R) -> Result<Vec<String>, AllocError> {
 }
 
 // Runs the words of the command line, and answers the status.
-fn status<R: Env + Files + Print + AllocGlobal>(rt: &R) -> u8 {
+fn status<R: Env + Files + Print + Processes + AllocGlobal>(rt: &R) -> u8 {
     let alloc: Global = rt.alloc();
     let mut files = RealFiles::new(rt, alloc);
     let mut out = StdoutSink::new(rt);
-    let mut helpers = NoHelpers::new();
+    let mut helpers = ChildHelpers::new(rt, alloc);
     match words(rt) {
         Ok(words) => run(alloc, &words, &mut files, &mut out, &mut helpers),
         Err(_) => MEMORY,

@@ -2,6 +2,7 @@ ghost use Rattle.std.specs.Prelude.{◌≡◌, ◌≢◌, ℕ, List};
 ghost use Rattle.act1_outside.specs.Failures.{failures_of};
 ghost use Rattle.act1_outside.specs.Faults.{Rose, OnlyAt, count_after, is_memory};
 
+use crate::whole_file::write_whole;
 use act1_outside::{Failures, FileFault, Files};
 use std::alloc::Global;
 use std::io::Read;
@@ -13,6 +14,7 @@ use std::{fs, io, rt};
 #[derive(Drop)]
 pub struct RealFiles<'a, R> {
     rt: &'a R,
+    alloc: Global,
     failed_reads: Failures,
     failed_writes: Failures,
     unwritten: u64,
@@ -27,6 +29,7 @@ impl<'a, R> RealFiles<'a, R> {
     {
         RealFiles {
             rt,
+            alloc,
             failed_reads: Failures::new(alloc),
             failed_writes: Failures::new(alloc),
             unwritten: 0,
@@ -91,7 +94,7 @@ impl<R: rt::Files> Files for RealFiles<'_, R> {
     }
 
     fn write(&mut self, name: &str, bytes: &[u8]) -> Result<(), FileFault> {
-        match fs::write(self.rt, name, bytes) {
+        match write_whole(self.rt, self.alloc, name, bytes) {
             Ok(()) => Ok(()),
             Err(e) => {
                 let fault = fault(&mut self.failed_writes, name, &e);

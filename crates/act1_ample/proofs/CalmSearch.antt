@@ -3,17 +3,17 @@ use Rattle.std.proofs.Common.{ℕ, zero, suc, ◌≡◌, ◌≢◌, ◌⊎◌, �
 use Rattle.std.specs.Prelude.{find, count_by}
 use Rattle.std.specs.List.{list_all, list_any}
 use Rattle.std.proofs.lemmas.Bool.{and_parts, eqb-true, eq-eqb, false≢true, leb-true, cases_eq, cases_order}
-use Rattle.std.proofs.lemmas.List.{take_more, take_all}
+use Rattle.std.proofs.lemmas.List.{length-append, take_more, take_all}
 use Rattle.std.proofs.lemmas.List.Sums.{sum_by-cons}
 use Rattle.std.proofs.lemmas.List.Elements.{Contains-push_cases, Contains-append_left, Contains-push}
 use Rattle.std.proofs.lemmas.Option.{get_or_from_slice_get}
-use Rattle.act1_base.proofs.ListGets.{get_within, get_in}
+use Rattle.act1_base.proofs.ListGets.{get_cases, get_within, get_in}
 use Rattle.act1_channel.specs.declared.problem.Problem.{Problem}
 use Rattle.act1_channel.specs.declared.problem.Choice.{Choice}
 use Rattle.act1_channel.specs.declared.problem.Hint.{Hint}
 use Rattle.act1_channel.specs.declared.problem.Hint.TheVariants as hint
 use Rattle.act1_channel.specs.Ranges.{is_problem, is_within, is_track, is_connection}
-use Rattle.act1_channel.specs.Assignment.{IsAllowed, DoClash, connection_at, choice_at}
+use Rattle.act1_channel.specs.Assignment.{IsAllowed, DoClash, Assigns, connection_at, choice_at}
 use Rattle.act1_channel.specs.Clauses.{Fact, taken, refused, opposite, IsPart}
 use Rattle.act1_channel.proofs.Facts.{choice_from, fact_from, same_fact}
 use Rattle.act1_search.specs.Closure.{IsUsed, Follows, IsInConflict}
@@ -21,7 +21,7 @@ use Rattle.act1_search.specs.Closure.Follows.{is_chosen, is_left}
 use Rattle.act1_search.specs.Search.{IsDecision, Descends, EndsInConflict}
 use Rattle.act1_groute.proofs.Elements.{first_or_later, not_in_none, any_of, some_of, finds, found}
 use Rattle.act1_ample.specs.Ample.{is_unbroken, IsWide}
-use Rattle.act1_ample.specs.Laws.{WideIsCalm, NoConflicts, WideIsAssigned}
+use Rattle.act1_ample.specs.Laws.{NoConflicts, WideHasAssignment, WideIsAssigned, WideIsCalm}
 use Rattle.act1_groute.proofs.Distinct.{Differ, fewer_than}
 
 -- the statement, or its opposite
@@ -355,6 +355,42 @@ module _ (p : Problem) (wide : IsWide p) where
       let whole : length chosen ≤ length chosen = omega arith in
       let placed = subst ArePlaced (take_all (length chosen) chosen whole) (descent_placed chosen h.0 (length chosen) whole) in
       no_conflict chosen (extend chosen (length p.connections) placed (omega arith)) h.1
+
+  -- the tracks that these choices give the first connections
+  record GiveTracks (more : List Choice) (n : ℕ) : Type 0 where
+    tracks : List ℕ
+    long : length tracks ≡ n
+    given : (c t : ℕ) → slice_get tracks c ≡ Some t → Contains more (choice_at c t)
+
+  tracks_of : (so : Extends [] (length p.connections)) (n : ℕ) → n ≤ length p.connections → GiveTracks so.more n
+  tracks_of so zero low = record { tracks = []; long = refl; given = λ c t e. absurd (let none = get_within [] c t e in omega (arith, none)) }
+  tracks_of so (suc n) low = from (tracks_of so n (omega arith)) (so.each n (omega arith))
+    where
+      from : GiveTracks so.more n → (e : Choice) × Contains so.more e × (e.connection ≡ n) → GiveTracks so.more (suc n)
+      from had (e, chosen, is) = record {
+        tracks = had.tracks ++ e.track ∷ [];
+        long = omega (arith, length-append had.tracks (e.track ∷ []), had.long);
+        given = λ c t there. by c t (get_cases had.tracks e.track t c there);
+      }
+        where
+          by : (c t : ℕ) → (slice_get had.tracks c ≡ Some t) ⊎ ((c ≡ length had.tracks) × (e.track ≡ t)) → Contains so.more (choice_at c t)
+          by c t (inl k) = had.given c t k
+          by c t (inr (k, same)) = subst (Contains so.more) (choice_from e (choice_at c t) (is ∙ sym (k ∙ had.long)) same) chosen
+
+  pub assigned : (tracks : List ℕ) × Assigns p tracks
+  assigned =
+      let so = extend [] (length p.connections) none_placed (omega arith) in
+      let had = tracks_of so (length p.connections) (omega arith) in (
+        had.tracks,
+        record {
+          each = had.long;
+          allowed = λ c t e. so.placed.allowed (choice_at c t) (had.given c t e);
+          apart = λ c d t less e f clash. so.placed.apart (choice_at c t) (choice_at d t) (had.given c t e) (had.given d t f) (λ same. absurd (omega (arith, less, same))) refl clash;
+        },
+      )
+
+pub wide_has_assignment : WideHasAssignment
+wide_has_assignment p wide = assigned p wide
 
 pub wide_is_calm : WideIsCalm
 wide_is_calm p wide chosen h = calm p wide chosen h

@@ -5,6 +5,7 @@ use Rattle.act1_blif.specs.Need.{need}
 use Rattle.act1_device.specs.declared.device.Device.{Device}
 use Rattle.act1_channel.specs.declared.problem.Problem.{Problem}
 use Rattle.act1_channel.specs.declared.problem.Choice.{Choice}
+use Rattle.act1_channel.specs.Assignment.{Assigns}
 use Rattle.act1_plan.specs.declared.plan.Plan.{Plan}
 use Rattle.act1_plan.specs.Legal.{Legal}
 use Rattle.act1_groute.specs.declared.wiring.Wiring.{Wiring}
@@ -53,6 +54,10 @@ NoConflicts = (p : Problem) → IsWide p → (steps : List (List Choice)) → Ar
 -- it is never refuted, and has no conflict of any number
 abbrev pub WideIsAssigned : Type 0
 WideIsAssigned = (p : Problem) → IsWide p → ((steps : List (List Choice)) → EndsRefuted p steps → ⊥) × ((number : ℕ) (chosen : List Choice) → HasConflict p number chosen → ⊥)
+
+-- it has an assignment
+abbrev pub WideHasAssignment : Type 0
+WideHasAssignment = (p : Problem) → IsWide p → (tracks : List ℕ) × Assigns p tracks
 
 -- so whatever the budget, the search of a wide channel answers an assignment, or finds no memory
 abbrev pub WideIsAnswered : Type 0

@@ -1,4 +1,4 @@
-ghost use Rattle.act1_ample.specs.Laws.{AmplePlansRoute, ChannelsAreWide, EnoughIsNotSpent, NoConflicts, RoutesExist, WideIsAnswered, WideIsAssigned, WideIsCalm, WidePlansRoute};
+ghost use Rattle.act1_ample.specs.Laws.{AmplePlansRoute, ChannelsAreWide, EnoughIsNotSpent, NoConflicts, RoutesExist, WideHasAssignment, WideIsAnswered, WideIsAssigned, WideIsCalm, WidePlansRoute};
 
 /// The law of wide devices: where there is, for each net of a legal plan, a long wire that spans all channels, and in
 /// each channel an unbroken track, the rule of routes finds a wire for each net and channel, and each channel has an
@@ -16,11 +16,12 @@ pub fn ample_plans_route()
 {}
 
 /// The law of wide channels: where there is an unbroken track for each connection, no descent of the search ends in a
-/// conflict. So the search has no conflicts, and is never refuted.
+/// conflict. So the search has no conflicts, and is never refuted; and the channel has an assignment.
 pub fn wide_is_calm()
     ensures calm { WideIsCalm }
     ensures conflicts { NoConflicts }
     ensures assigned { WideIsAssigned }
+    ensures has { WideHasAssignment }
 {}
 
 /// The law of sure answers: whatever the budget, the search of a wide channel answers an assignment, or finds no memory;

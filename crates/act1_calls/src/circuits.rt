@@ -81,8 +81,8 @@ pub fn form_row<R: Files>(rt: &R, alloc: Global, words: &[&str], text: &mut Stri
     add_answer(alloc, &circuit, text)
 }
 
-// The bits that a word has.
-fn bits_of(alloc: Global, word: &str) -> Option<Vec<bool>> {
+/// The bits that a word has.
+pub fn bits_of(alloc: Global, word: &str) -> Option<Vec<bool>> {
     let mut bits = Vec::new(alloc);
     for byte in word.as_bytes() {
         bits.push(*byte == b'1').ok()?;
@@ -90,12 +90,20 @@ fn bits_of(alloc: Global, word: &str) -> Option<Vec<bool>> {
     Some(bits)
 }
 
-// Adds bits as characters, and a line feed.
-fn add_bits(bits: &[bool], text: &mut String) -> Option<()> {
+/// Adds bits as characters, and a line feed.
+pub fn add_bits(bits: &[bool], text: &mut String) -> Option<()> {
     for bit in bits {
         add_bit(text, *bit)?;
     }
     text.push('\n').ok()
+}
+
+/// Adds whether a circuit rests, or the least module that doesn't.
+pub fn add_rest(unrest: Option<u16>, text: &mut String) -> Option<()> {
+    match unrest {
+        None => text.push_str("rests\n").ok(),
+        Some(module) => writeln!(text, "module {module}").ok(),
+    }
 }
 
 // Adds what a wave leaves of the bits of the modules, and the least that doesn't rest, if one doesn't.
@@ -111,10 +119,7 @@ fn add_settled(
     }
     let unrest = settle(circuit, clock, inputs, bits);
     add_bits(bits, text)?;
-    match unrest {
-        None => text.push_str("rests\n").ok(),
-        Some(module) => writeln!(text, "module {module}").ok(),
-    }
+    add_rest(unrest, text)
 }
 
 /// The row `settled CLOCK DEVICE FUSES INPUTS BITS`.

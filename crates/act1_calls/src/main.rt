@@ -42,6 +42,7 @@
 //! | `filled B DEVICE FUSES VECTORS` | the outputs where each module without a start of 0 or 1 begins with B |
 //! | `form DEVICE FUSES` | the latch pairs of the circuit, master and slave, and its other modules; or the first fault |
 //! | `settled CLOCK DEVICE FUSES INPUTS BITS` | what a wave leaves of the bits of the modules, and whether they rest |
+//! | `engine DEVICE FUSES BITS WAVE ..` | the same of wave after wave by one engine, each of a word that is the clock and then the inputs; and `differs` where firing all modules in each round has it otherwise |
 #![tactic(auto)]
 
 mod arrays;
@@ -49,6 +50,7 @@ mod channels;
 mod circuits;
 mod covers;
 mod diagrams;
+mod engines;
 mod input;
 mod jobs;
 mod logs;
@@ -114,6 +116,7 @@ fn add_given<R: Files>(rt: &R, alloc: Global, words: &[&str], text: &mut String)
         "filled" => arrays::filled_row(rt, alloc, words, text),
         "form" => circuits::form_row(rt, alloc, words, text),
         "settled" => circuits::settled_row(rt, alloc, words, text),
+        "engine" => engines::engine_row(rt, alloc, words, text),
         _ => None,
     }
 }

@@ -1,6 +1,5 @@
 -- The circuit of a netlist, and its plan.
 use Rattle.std.proofs.Common.{ℕ, ◌≡◌, ◌≤◌, min, length, inl, sym, ap, subst, ◌∙◌, arith}
-use Rattle.std.specs.Prelude.{Err}
 use Rattle.std.proofs.lemmas.List.{length-map}
 use Rattle.act1_blif.specs.declared.blif.Blif.{Blif}
 use Rattle.act1_blif.specs.Names.{signal_name}
@@ -17,10 +16,10 @@ use Rattle.act1_flow.specs.declared.answer.FlowStop.{FlowStop}
 use Rattle.act1_flow.specs.declared.answer.FlowStop.TheVariants as stop
 use Rattle.act1_flow.specs.declared.answer.Settings.{Settings}
 use Rattle.act1_flow.specs.declared.mapping.Counted.{Counted}
-use Rattle.act1_flow.specs.Flow.{pads_needed, HasPads, FlowGives}
+use Rattle.act1_flow.specs.Flow.{pads_needed, HasPads}
 use Rattle.act1_flow.specs.Realizes.{IsFew, IsPlanFor}
 use Rattle.act1_flow.proofs.Clear.{no_clash}
-use Rattle.act1_flow.specs.Steps.{IsCounted, IsCircuitFor, IsPlanned, OnFull, OnPlaceStop, PlanLaws}
+use Rattle.act1_flow.specs.Steps.{IsCounted, IsCircuitFor, IsPlanned, IsPlanStop, OnFull, OnPlaceStop, PlanLaws}
 
 -- the circuit of the net that is mapped is one of the netlist
 pub circuit_is : NetMeansNetlist → (b : Blif) (counted : Counted) (c : Circuit) → IsCounted b counted → IsMapOf counted.net c → IsCircuitFor b c
@@ -75,28 +74,28 @@ module _ (laws : PlanLaws) (dev : Device) (b : Blif) (settings : Settings) (low 
   }
 
 -- the stops of the circuit and of its placement are those of the flow
-pub full_stops : (dev : Device) (b : Blif) (settings : Settings) (why : FlowStop) → HasPads dev b → OnFull dev b why → FlowGives dev b settings (Err why)
+pub full_stops : (dev : Device) (b : Blif) (settings : Settings) (why : FlowStop) → HasPads dev b → OnFull dev b why → IsPlanStop dev b settings why
 full_stops dev b settings (stop.Pads needed have) pads h = absurd h
-full_stops dev b settings (stop.Full needed have) pads h = (pads, h)
+full_stops dev b settings (stop.Full needed have) pads h = λ helping. (pads, h)
 full_stops dev b settings (stop.Vertical net channel plan) pads h = absurd h
-full_stops dev b settings (stop.Refuted report connections) pads h = absurd h
-full_stops dev b settings (stop.Spent plan channel conflicts tracks connections) pads h = absurd h
-full_stops dev b settings stop.Memory pads h = h
+full_stops dev b settings (stop.Refuted report connections tally) pads h = absurd h
+full_stops dev b settings (stop.Spent plan channel conflicts tracks connections tally) pads h = absurd h
+full_stops dev b settings stop.Memory pads h = λ helping. h
 
 -- a count of 16 bits is that of 32 bits
 min_is : (n : ℕ) → n ≤ 65535 → n ≡ min n 4294967295
 min_is n h = omega arith
 
-pub place_stops : (dev : Device) (b : Blif) (settings : Settings) (c : Circuit) → IsCircuitFor b c → (why : FlowStop) → HasPads dev b → OnPlaceStop dev c why → FlowGives dev b settings (Err why)
+pub place_stops : (dev : Device) (b : Blif) (settings : Settings) (c : Circuit) → IsCircuitFor b c → (why : FlowStop) → HasPads dev b → OnPlaceStop dev c why → IsPlanStop dev b settings why
 place_stops dev b settings c is (stop.Pads needed have) pads h =
     let same = same_pads b c is.means in
     let needed_is = h.0 in
     let have_is = h.1 in
     let less = h.2 in
     absurd (omega arith)
-place_stops dev b settings c is (stop.Full needed have) pads h =
+place_stops dev b settings c is (stop.Full needed have) pads h = λ helping.
     (pads, record { count = needed; few = subst (IsFew b) (sym h.1) is.few; of = inl (c, is.means, h.1); needed_is = min_is needed (subst (λ (n : ℕ). n ≤ 65535) (sym h.1) is.means.in_range.few_modules); have_is = h.2; more = h.3 })
 place_stops dev b settings c is (stop.Vertical net channel plan) pads h = absurd h
-place_stops dev b settings c is (stop.Refuted report connections) pads h = absurd h
-place_stops dev b settings c is (stop.Spent plan channel conflicts tracks connections) pads h = absurd h
-place_stops dev b settings c is stop.Memory pads h = h
+place_stops dev b settings c is (stop.Refuted report connections tally) pads h = absurd h
+place_stops dev b settings c is (stop.Spent plan channel conflicts tracks connections tally) pads h = absurd h
+place_stops dev b settings c is stop.Memory pads h = λ helping. h

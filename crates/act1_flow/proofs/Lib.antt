@@ -4,3 +4,4 @@ pub mod Clear
 pub mod Counts
 pub mod Reports
 pub mod Sure
+pub mod Verdicts

@@ -1,5 +1,5 @@
 -- What the steps of the flow find.
-use Rattle.std.specs.Prelude.{ℕ, ◌≡◌, ◌<◌, ◌+◌, Bool, true, List, length, slice_get, Some, Ok, Err}
+use Rattle.std.specs.Prelude.{ℕ, ◌≡◌, ◌<◌, ◌+◌, ◌⊎◌, Bool, true, List, ◌∷◌, ◌++◌, length, map, slice_get, Some, Result, Ok, Err}
 use Rattle.act1_blif.specs.declared.blif.Blif.{Blif}
 use Rattle.act1_net.specs.declared.net.Net.{Net}
 use Rattle.act1_net.specs.declared.net.NetTerm.TheVariants as term
@@ -20,9 +20,17 @@ use Rattle.act1_place.specs.Place as room
 use Rattle.act1_place.specs.Laws.{IsSettled}
 use Rattle.act1_place.specs.Start.{IsPlacement}
 use Rattle.act1_channel.specs.declared.problem.Problem.{Problem}
+use Rattle.act1_channel.specs.declared.problem.Log.{Log}
+use Rattle.act1_search.specs.declared.verdict.SearchStop.{SearchStop}
 use Rattle.act1_search.specs.declared.verdict.SearchStop.TheVariants as search
+use Rattle.act1_search.specs.declared.verdict.Verdict.{Verdict}
 use Rattle.act1_search.specs.declared.verdict.Verdict.TheVariants.{Assigned, Refuted}
-use Rattle.act1_search.specs.Answers.{IsAnswer}
+use Rattle.act1_farm.specs.declared.outcome.FarmStop.{FarmStop}
+use Rattle.act1_farm.specs.declared.outcome.FarmStop.TheVariants as farm
+use Rattle.act1_farm.specs.declared.outcome.Outcome.{Outcome}
+use Rattle.act1_farm.specs.declared.outcome.Tally.{Tally}
+use Rattle.act1_farm.specs.Jobs.{BeganStory}
+use Rattle.act1_farm.specs.Story.{asked_for, jobs_of}
 use Rattle.act1_groute.specs.declared.wiring.Wiring.{Wiring}
 use Rattle.act1_groute.specs.Routes.{routes}
 use Rattle.act1_emit.specs.File as emit
@@ -35,10 +43,14 @@ use Rattle.act1_flow.specs.declared.answer.FlowStop.TheVariants as stop
 use Rattle.act1_flow.specs.declared.answer.Settings.{Settings}
 use Rattle.act1_flow.specs.declared.assigning.ChannelStop.{ChannelStop}
 use Rattle.act1_flow.specs.declared.assigning.ChannelStop.TheVariants as channel_stop
+use Rattle.act1_flow.specs.declared.assigning.Ending.{Ending}
+use Rattle.act1_flow.specs.declared.assigning.Ending.TheVariants as ending
+use Rattle.act1_flow.specs.declared.assigning.Tracked.{Tracked}
 use Rattle.act1_flow.specs.declared.mapping.Counted.{Counted}
 use Rattle.act1_flow.specs.declared.planning.RoutedPlan.{RoutedPlan}
-use Rattle.act1_flow.specs.Flow.{pads_needed, IsFull, IsProblemAt, IsAssigned}
-use Rattle.act1_flow.specs.Realizes.{IsFew}
+use Rattle.act1_flow.specs.Flow.{pads_needed, AreAssignedBefore, AreAssignedTo, AreProblemsOf, FlowGives, HasPads, IsAsking, IsDecided, IsFull, IsProblemAt}
+use Rattle.act1_flow.specs.Helping.{Helping}
+use Rattle.act1_flow.specs.Realizes.{IsFew, IsPlanFor}
 
 -- a stop of the placement is one of the flow
 abbrev pub stop_of : PlaceStop → FlowStop
@@ -100,34 +112,87 @@ OnVertical dev plan (stop.Vertical net channel same) = (same ≡ plan) × (route
 OnVertical dev plan stop.Memory = Unit {0}
 OnVertical dev plan why = ⊥
 
--- so many first channels have these tracks, with which their searches end
-pub record AreAssignedTo (dev : Device) (plan : Plan) (channels : List (List Wiring)) (budget count : ℕ) (tracks : List (List ℕ)) : Type 0 where
-  pub long : length tracks ≡ count
-  pub each : (h : ℕ) (assigned : List ℕ) → slice_get tracks h ≡ Some assigned → (p : Problem) × IsProblemAt dev plan channels h p × IsAnswer p budget (Ok (Assigned assigned))
+-- the plan is that of a netlist that has its pads, and is routed
+pub record IsReadyPlan (dev : Device) (net : Blif) (settings : Settings) (r : RoutedPlan) : Type 0 where
+  pub pads : HasPads dev net
+  pub plan_is : IsPlanFor dev net settings r.plan
+  pub routed : routes dev r.plan ≡ Ok r.routes.channels
 
--- the search of each channel before this one ends with an assignment
-abbrev pub AreAssignedBefore : Device → Plan → List (List Wiring) → ℕ → ℕ → Type 0
-AreAssignedBefore dev plan channels budget channel = (h : ℕ) → h < channel → IsAssigned dev plan channels budget h
+-- why there is no such plan, whatever helpers there are
+abbrev pub IsPlanStop : Device → Blif → Settings → FlowStop → Type 0
+IsPlanStop dev net settings why = (helping : Helping) → FlowGives dev net settings helping (Err why)
 
--- the search of a channel, the first that it doesn't assign, ends so
-abbrev pub IsChannelStop : Device → Plan → List (List Wiring) → ℕ → ChannelStop → Type 0
-IsChannelStop dev plan channels budget (channel_stop.Refuted channel connections log) =
-    AreAssignedBefore dev plan channels budget channel × (p : Problem) × IsProblemAt dev plan channels channel p × IsAnswer p budget (Ok (Refuted log)) × (connections ≡ length p.connections)
-IsChannelStop dev plan channels budget (channel_stop.Spent channel conflicts tracks connections) =
-    AreAssignedBefore dev plan channels budget channel × (p : Problem) × IsProblemAt dev plan channels channel p × IsAnswer p budget (Err (search.Spent conflicts)) × (tracks ≡ length p.tracks) × (connections ≡ length p.connections)
-IsChannelStop dev plan channels budget channel_stop.Memory = Unit {0}
+-- so many first channels of the plan have these problems
+pub record AreFirstProblems (dev : Device) (plan : Plan) (channels : List (List Wiring)) (count : ℕ) (problems : List Problem) : Type 0 where
+  pub long : length problems ≡ count
+  pub each : (h : ℕ) (p : Problem) → slice_get problems h ≡ Some p → IsProblemAt dev plan channels h p
 
--- what the search of this one channel ends with, where it isn't an assignment
-abbrev pub IsSearchStop : Problem → ℕ → ℕ → ChannelStop → Type 0
-IsSearchStop p budget at (channel_stop.Refuted channel connections log) = (channel ≡ at) × IsAnswer p budget (Ok (Refuted log)) × (connections ≡ length p.connections)
-IsSearchStop p budget at (channel_stop.Spent channel conflicts tracks connections) =
-    (channel ≡ at) × IsAnswer p budget (Err (search.Spent conflicts)) × (tracks ≡ length p.tracks) × (connections ≡ length p.connections)
-IsSearchStop p budget at channel_stop.Memory = Unit {0}
+-- the verdicts are assignments by these tracks up to this channel, which is refuted by this log
+abbrev pub EndsAt : List Verdict → ℕ → Log → Type 0
+EndsAt verdicts channel log = (tracks : List (List ℕ)) × (rest : List Verdict) × (channel ≡ length tracks) × (verdicts ≡ map Assigned tracks ++ Refuted log ∷ rest)
+
+abbrev pub EndsIn : List Verdict → Ending → Type 0
+EndsIn verdicts (ending.Refuted channel log) = EndsAt verdicts channel log
+EndsIn verdicts ending.Memory = Unit {0}
+
+-- the same as the stop of a channel, with the number of its connections
+abbrev pub EndsRefuted : List Problem → Outcome → ChannelStop → Type 0
+EndsRefuted problems outcome (channel_stop.Refuted channel connections log tally) =
+    EndsAt outcome.answers channel log × ((p : Problem) × (slice_get problems channel ≡ Some p) × (connections ≡ length p.connections)) × (tally ≡ outcome.tally)
+EndsRefuted problems outcome (channel_stop.Spent channel conflicts tracks connections tally) = ⊥
+EndsRefuted problems outcome channel_stop.Memory = Unit {0}
+
+-- the tracks are those of the verdicts, which are all assignments
+pub record AreTracksOf (outcome : Outcome) (t : Tracked) : Type 0 where
+  pub tracks : map Assigned t.tracks ≡ outcome.answers
+  pub tally : t.tally ≡ outcome.tally
+
+-- the stop of the verdicts is that of a channel, with the numbers of its tracks and connections
+abbrev pub IsSpentStop : List Problem → FarmStop → ChannelStop → Type 0
+IsSpentStop problems (farm.Spent channel conflicts tally) (channel_stop.Spent same number tracks connections counts) =
+    (same ≡ channel) × (number ≡ conflicts) × (counts ≡ tally) × (p : Problem) × (slice_get problems channel ≡ Some p) × (tracks ≡ length p.tracks) × (connections ≡ length p.connections)
+IsSpentStop problems farm.Memory channel_stop.Memory = Unit {0}
+IsSpentStop problems why stop = ⊥
+
+-- the channel of the stop is one of these
+abbrev pub IsStopOf : List Problem → FarmStop → Type 0
+IsStopOf problems (farm.Spent channel conflicts tally) = channel < length problems
+IsStopOf problems farm.Memory = Unit {0}
+
+-- all channels of the plan have these tracks, by which they are decided
+pub record IsTracked (dev : Device) (plan : Plan) (settings : Settings) (helping : Helping) (t : Tracked) : Type 0 where
+  pub asking : IsAsking dev plan settings helping t.tally
+  pub decided : AreAssignedTo asking.problems asking.story settings.budget (dev.rows + 1) t.tracks
+
+-- a channel is decided by this answer, and each before it by an assignment
+pub record IsFirstStop (dev : Device) (plan : Plan) (settings : Settings) (helping : Helping) (channel : ℕ) (p : Problem) (answer : Result Verdict SearchStop) (tally : Tally) : Type 0 where
+  pub asking : IsAsking dev plan settings helping tally
+  pub before : AreAssignedBefore asking.problems asking.story settings.budget channel
+  pub at : slice_get asking.problems channel ≡ Some p
+  pub is : IsDecided asking.problems asking.story settings.budget channel p answer
+
+-- the first channel that isn't decided by an assignment ends so
+abbrev pub IsChannelStop : Device → Plan → Settings → Helping → ChannelStop → Type 0
+IsChannelStop dev plan settings helping (channel_stop.Refuted channel connections log tally) =
+    (p : Problem) × IsFirstStop dev plan settings helping channel p (Ok (Refuted log)) tally × (connections ≡ length p.connections)
+IsChannelStop dev plan settings helping (channel_stop.Spent channel conflicts tracks connections tally) =
+    (p : Problem) × IsFirstStop dev plan settings helping channel p (Err (search.Spent conflicts)) tally × (tracks ≡ length p.tracks) × (connections ≡ length p.connections)
+IsChannelStop dev plan settings helping channel_stop.Memory = Unit {0}
+
+-- no helper was called, or they were asked for the channels of the plan, by the front of their story at least
+pub record ChannelsWereAsked (dev : Device) (plan : Plan) (channels : List (List Wiring)) (settings : Settings) (helping : Helping) : Type 0 where
+  pub problems : List Problem
+  pub are : AreProblemsOf dev plan channels problems
+  pub began : BeganStory helping.program (jobs_of settings.budget (asked_for problems)) settings.jobs helping.before helping.after
+
+pub record ChannelCalls (dev : Device) (plan : Plan) (channels : List (List Wiring)) (settings : Settings) (helping : Helping) : Type 0 where
+  pub calls : (helping.after ≡ helping.before) ⊎ ChannelsWereAsked dev plan channels settings helping
+  pub none : settings.jobs ≡ 0 → helping.after ≡ helping.before
 
 -- what the flow answers where a channel has no tracks
 abbrev pub flow_stop : Plan → ChannelStop → FlowStop
-flow_stop plan (channel_stop.Refuted channel connections log) = stop.Refuted (record { plan = plan; channel = channel; log = log }) connections
-flow_stop plan (channel_stop.Spent channel conflicts tracks connections) = stop.Spent plan channel conflicts tracks connections
+flow_stop plan (channel_stop.Refuted channel connections log tally) = stop.Refuted (record { plan = plan; channel = channel; log = log }) connections tally
+flow_stop plan (channel_stop.Spent channel conflicts tracks connections tally) = stop.Spent plan channel conflicts tracks connections tally
 flow_stop plan channel_stop.Memory = stop.Memory
 
 -- pads are too few
@@ -135,10 +200,8 @@ abbrev pub OnPads : Device → Blif → FlowStop → Type 0
 OnPads dev b (stop.Pads needed have) = (needed ≡ pads_needed b) × (have ≡ length dev.pads) × (have < needed)
 OnPads dev b why = ⊥
 
--- the plan's file is this one, with so many modules
-pub record IsProgrammed (dev : Device) (plan : Plan) (r : Routed) : Type 0 where
-  pub channels : List (List Wiring)
-  pub tracks : List (List ℕ)
+-- the plan's file on these tracks is this one, with so many modules
+pub record IsProgrammed (dev : Device) (plan : Plan) (channels : List (List Wiring)) (tracks : List (List ℕ)) (r : Routed) : Type 0 where
   pub tracked : HasTracks dev plan channels tracks
   pub realizes : emit.Realizes dev plan channels tracks r.fuses
   pub count : r.modules ≡ length plan.placed.circuit.modules

@@ -15,6 +15,7 @@ use Rattle.act1_flow.specs.declared.answer.FlowStop.TheVariants as stop
 use Rattle.act1_flow.specs.declared.answer.Routed.{Routed}
 use Rattle.act1_flow.specs.declared.answer.Settings.{Settings}
 use Rattle.act1_flow.specs.Flow.{FlowGives, IsProblemAt}
+use Rattle.act1_flow.specs.Helping.{Helping}
 
 -- an antifuse file, or want of memory
 abbrev pub IsRoutedOrMemory : Result Routed FlowStop → Type 0
@@ -26,7 +27,7 @@ IsEnoughFor dev plan budget = (channels : List (List Wiring)) (h : ℕ) (p : Pro
 
 -- the answer isn't that a search is spent though the budget is enough for its plan
 abbrev pub IsUnspent : Device → ℕ → Result Routed FlowStop → Type 0
-IsUnspent dev budget (Err (stop.Spent plan channel conflicts tracks connections)) = IsEnoughFor dev plan budget → ⊥
+IsUnspent dev budget (Err (stop.Spent plan channel conflicts tracks connections tally)) = IsEnoughFor dev plan budget → ⊥
 IsUnspent dev budget _ = Unit {0}
 
 -- the extraction of the antifuse file answers a netlist, or finds no memory
@@ -34,14 +35,14 @@ abbrev pub IsExtractable : Device → Result Routed FlowStop → Type 0
 IsExtractable dev (Ok routed) = (answer : Result Blif ExtractFault) → ExtractGives dev routed.fuses answer → IsNetOrMemory answer
 IsExtractable dev (Err why) = Unit {0}
 
--- on a device that is ample for the netlist the flow gives an antifuse file or finds no memory, whatever its settings
+-- on a device that is ample for the netlist the flow gives an antifuse file or finds no memory, whatever its settings and helpers
 abbrev pub FlowSucceeds : Type 0
-FlowSucceeds = (dev : Device) (net : Blif) (settings : Settings) (r : Result Routed FlowStop) → IsAmple dev net → FlowGives dev net settings r → IsRoutedOrMemory r
+FlowSucceeds = (dev : Device) (net : Blif) (settings : Settings) (helping : Helping) (r : Result Routed FlowStop) → IsAmple dev net → FlowGives dev net settings helping r → IsRoutedOrMemory r
 
 -- where the budget is enough for a plan, the flow doesn't answer that a search of it is spent
 abbrev pub FlowIsNotSpent : Type 0
-FlowIsNotSpent = (dev : Device) (net : Blif) (settings : Settings) (r : Result Routed FlowStop) → FlowGives dev net settings r → IsUnspent dev settings.budget r
+FlowIsNotSpent = (dev : Device) (net : Blif) (settings : Settings) (helping : Helping) (r : Result Routed FlowStop) → FlowGives dev net settings helping r → IsUnspent dev settings.budget r
 
 -- each antifuse file that the flow gives is extracted
 abbrev pub FlowIsExtracted : Type 0
-FlowIsExtracted = (dev : Device) (net : Blif) (settings : Settings) (r : Result Routed FlowStop) → FlowGives dev net settings r → IsExtractable dev r
+FlowIsExtracted = (dev : Device) (net : Blif) (settings : Settings) (helping : Helping) (r : Result Routed FlowStop) → FlowGives dev net settings helping r → IsExtractable dev r

@@ -1,5 +1,6 @@
 use act1_base::Memory;
 use act1_circuit::Source;
+use act1_farm::Tally;
 use act1_fuses::FuseFile;
 use act1_place::PlaceStop;
 use act1_plan::Plan;
@@ -14,6 +15,8 @@ pub struct Settings {
     pub budget: u64,
     /// The seed of the placement.
     pub seed: u64,
+    /// How many helpers may run at a time; with 0 none is asked.
+    pub jobs: u8,
 }
 
 /// What the flow gives.
@@ -23,6 +26,8 @@ pub struct Routed {
     pub fuses: FuseFile,
     /// How many modules of the array are used.
     pub modules: u16,
+    /// What came of the helpers.
+    pub tally: Tally,
 }
 
 /// Why the flow gives no antifuse file.
@@ -57,8 +62,10 @@ pub enum FlowStop {
         report: Report,
         /// How many connections the channel has.
         connections: u16,
+        /// What came of the helpers.
+        tally: Tally,
     },
-    /// The search of a channel met as many conflicts as it may.
+    /// The search of a channel met as many conflicts as it may, and no usable answer of a helper came for it.
     Spent {
         /// The plan.
         plan: Plan,
@@ -70,6 +77,8 @@ pub enum FlowStop {
         tracks: u8,
         /// How many connections it has.
         connections: u16,
+        /// What came of the helpers.
+        tally: Tally,
     },
     /// A call found no memory.
     Memory,

@@ -1,1 +1,2 @@
+pub mod TearLoops
 pub mod Times

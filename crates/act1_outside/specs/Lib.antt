@@ -1,7 +1,9 @@
 pub mod Calls
+pub mod FakeHelpers
 pub mod Failures
 pub mod Faults
 pub mod MemoryFiles
 pub mod MemorySink
 pub mod NoHelpers
 pub mod Outside
+pub mod Tears

@@ -1,6 +1,7 @@
 use crate::fault::Fault;
 use crate::setting::Setting;
-use act1_outside::{MemoryFiles, MemorySink, NoHelpers};
+use crate::story::show_story;
+use act1_outside::{FakeHelpers, MemoryFiles, MemorySink};
 use act1_top::run;
 use std::alloc::Global;
 use std::collections::BTreeSet;
@@ -21,6 +22,8 @@ pub struct Answer {
     pub status: u8,
     /// What was printed.
     pub printed: Vec<u8>,
+    /// What helpers were asked for and what they answered, a line a call.
+    pub story: String,
     /// The files that changed, by their names.
     pub changed: Vec<ChangedFile>,
 }
@@ -33,6 +36,9 @@ fn files_of(alloc: Global, setting: &Setting) -> Result<MemoryFiles, Fault> {
     }
     for call in &setting.failing_files {
         files.fail(*call)?;
+    }
+    for (call, left) in &setting.torn_writes {
+        files.tear(*call, *left)?;
     }
     Ok(files)
 }
@@ -89,15 +95,34 @@ fn sink_of(alloc: Global, setting: &Setting) -> Result<MemorySink, Fault> {
     Ok(out)
 }
 
+// No answer of a helper has more bytes.
+const MOST_BYTES: usize = 1 << 20;
+
+// The helpers, with their answers and the calls that are to fail.
+fn helpers_of(alloc: Global, setting: &Setting) -> Result<FakeHelpers, Fault> {
+    let mut helpers = FakeHelpers::new(alloc);
+    for answer in &setting.answers {
+        if answer.len() > MOST_BYTES {
+            return Err(Fault::Data);
+        }
+        helpers.answer(answer)?;
+    }
+    for call in &setting.failing_helpers {
+        helpers.fail(*call)?;
+    }
+    Ok(helpers)
+}
+
 /// Runs the words of a setting on its files. The error is want of memory.
 pub fn answer_of(alloc: Global, setting: &Setting) -> Result<Answer, Fault> {
     let mut files = files_of(alloc, setting)?;
     let mut out = sink_of(alloc, setting)?;
-    let mut helpers = NoHelpers::new();
+    let mut helpers = helpers_of(alloc, setting)?;
     let status = run(alloc, &setting.words, &mut files, &mut out, &mut helpers);
     Ok(Answer {
         status,
         printed: Vec::from_slice(alloc, out.bytes())?,
+        story: show_story(alloc, helpers.story())?,
         changed: changed(alloc, setting, &files)?,
     })
 }

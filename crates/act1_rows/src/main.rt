@@ -14,7 +14,9 @@
 //! | `then holds TEXT` and its like | the last file goes on with this content |
 //! | `line K becomes TEXT`, `line K goes` | the last file's line K is another, or is left out |
 //! | `cut N` | the last file ends after N bytes |
-//! | `fail files N`, `fail print N` | the Nth call of the files, or of what is printed to, fails |
+//! | `fail files N`, `fail print N`, `fail helpers N` | the Nth call of the files, of what is printed to, or of helpers, fails |
+//! | `tear N M` | the Nth call of the files fails, and leaves the first M bytes of what it writes |
+//! | `answer TEXT` | the answer of one helper more: the first is that of the start that succeeds as the first, and so on |
 //! | `case TEXT` | the row is run once for each case, which stands wherever the row has an `@` |
 //! | `printed`, `statuses` | of each answer only the status and what was printed are shown, or only the status |
 //! | `cuts NAME` | the row is run once for each front of this file, from none of its bytes to all |
@@ -22,8 +24,8 @@
 //! In a TEXT the word `/` ends a line, as does the end of the text; the word `%end` at its end says that
 //! the last line has no line feed. `%` and two digits stand for a byte, and `%` alone for an empty word.
 //!
-//! A row is printed with its status, what was printed, and each file that changed or appeared, each line
-//! behind a bar. A case, or cuts with one answer, is one line, in which content stands as in a TEXT.
+//! A row is printed with its status, what was printed, the calls of helpers, a line each, and each file that changed or
+//! appeared; each line of what was printed or of a file stands behind a bar. A case, or cuts with one answer, is one line, in which content stands as in a TEXT.
 #![tactic(auto)]
 
 mod answer;
@@ -32,6 +34,7 @@ mod play;
 mod rows;
 mod setting;
 mod show;
+mod story;
 mod text;
 
 use fault::{Fault, Stop};

@@ -78,6 +78,7 @@ fn shown_of(alloc: Global, setting: &Setting, shown: Shown) -> Result<Answer, Fa
     let mut answer = answer_of(alloc, setting)?;
     if shown != Shown::Whole {
         answer.changed = Vec::new(alloc);
+        answer.story = String::new(alloc);
     }
     if shown == Shown::Status {
         answer.printed = Vec::new(alloc);

@@ -23,8 +23,14 @@ pub struct Setting {
     pub files: BTreeMap<String, Vec<u8>>,
     /// The numbers of the calls of the files that are to fail.
     pub failing_files: Vec<u64>,
+    /// The numbers of the calls of the files that are to fail, each with how many bytes it leaves of what it writes.
+    pub torn_writes: Vec<(u64, u64)>,
     /// The numbers of the calls of what is printed to that are to fail.
     pub failing_prints: Vec<u64>,
+    /// The answers of helpers, in the order of their starts.
+    pub answers: Vec<Vec<u8>>,
+    /// The numbers of the calls of helpers that are to fail.
+    pub failing_helpers: Vec<u64>,
     // The name of the file that was named last.
     last: String,
 }
@@ -105,7 +111,10 @@ impl Setting {
             words: Vec::new(alloc),
             files: BTreeMap::new(alloc),
             failing_files: Vec::new(alloc),
+            torn_writes: Vec::new(alloc),
             failing_prints: Vec::new(alloc),
+            answers: Vec::new(alloc),
+            failing_helpers: Vec::new(alloc),
             last: String::new(alloc),
         }
     }
@@ -121,6 +130,8 @@ impl Setting {
             "line" => self.edit_line(rest),
             "cut" => self.cut_last(rest),
             "fail" => self.fail(rest),
+            "tear" => self.tear(rest),
+            "answer" => self.take_answer(rest),
             _ => Err(Fault::Form),
         }
     }
@@ -216,8 +227,25 @@ impl Setting {
         match object {
             "files" => self.failing_files.push(call)?,
             "print" => self.failing_prints.push(call)?,
+            "helpers" => self.failing_helpers.push(call)?,
             _ => return Err(Fault::Form),
         }
+        Ok(())
+    }
+
+    // Lists a call of the files that is to fail, and how many bytes it leaves.
+    fn tear(&mut self, words: &str) -> Result<(), Fault> {
+        let (call, left) = first_word(words);
+        let call = number(call)?;
+        let left = number(left)?;
+        self.torn_writes.push((call, left))?;
+        Ok(())
+    }
+
+    // Takes the answer of one helper more.
+    fn take_answer(&mut self, text: &str) -> Result<(), Fault> {
+        let bytes = self.bytes_of(text)?;
+        self.answers.push(bytes)?;
         Ok(())
     }
 }

@@ -85,8 +85,8 @@ fn show_count(out: &mut String, count: u64, word: &[u8]) -> Result<(), AllocErro
     show_word(out, word)
 }
 
-// Adds content as one line: a slash parts its lines, and stands for an empty one.
-fn show_text(out: &mut String, bytes: &[u8]) -> Result<(), AllocError> {
+/// Adds content as one line: a slash parts its lines, and stands for an empty one.
+pub fn show_text(out: &mut String, bytes: &[u8]) -> Result<(), AllocError> {
     if is_long(bytes) {
         return show_many(out, bytes);
     }
@@ -131,10 +131,11 @@ fn show_block(out: &mut String, bytes: &[u8]) -> Result<(), AllocError> {
     }
 }
 
-/// Adds an answer, with each line of what was printed and of each file behind a bar.
+/// Adds an answer, with each line of what was printed and of each file behind a bar, and the calls of helpers between them.
 pub fn show_answer(out: &mut String, answer: &Answer) -> Result<(), AllocError> {
     writeln!(out, "status {}", answer.status)?;
     show_block(out, &answer.printed)?;
+    out.push_str(answer.story.as_str())?;
     for file in &answer.changed {
         match &file.bytes {
             Some(bytes) => {

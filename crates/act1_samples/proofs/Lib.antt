@@ -21,6 +21,7 @@ pub mod RingArrays
 pub mod Simulations
 pub mod SoundArrays
 pub mod SpoiltFiles
+pub mod Stories
 pub mod Statements
 pub mod TableLines
 pub mod UnsoundArrays

@@ -12,20 +12,18 @@ use Rattle.act1_sim.specs.Vectors.{output_line, output_text}
 
 -- what the cycles to come show, added to the text so far, is what all cycles show; they rest where those to come do; and a module that doesn't rest in one of those to come is the first of all
 pub record Goes (c : Circuit) (first : List Bool) (xs : List (List Bool)) (cycle : ℕ) (bits : List Bool) (rest : List (List Bool)) (text : List ℕ) : Type 0 where
-  pub one_each : length bits ≡ length c.modules
   pub rests : Rests c bits rest → Rests c first xs
   pub text_is : text ++ output_text (outputs c bits rest) ≡ output_text (outputs c first xs)
   pub unrest : (k m : ℕ) → IsFirstUnrest c bits rest k m → IsFirstUnrest c first xs (cycle + k) m
 
 -- one cycle more
 pub next_cycle : (c : Circuit) (first : List Bool) (xs : List (List Bool)) (cycle : ℕ) (bits new : List Bool) (x : List Bool) (rest : List (List Bool)) (text added : List ℕ)
-    → Goes c first xs cycle bits (x ∷ rest) text → RestsIn c bits x → new ≡ high_bits c bits x (in_site_order c) → length new ≡ length bits
+    → Goes c first xs cycle bits (x ∷ rest) text → RestsIn c bits x → new ≡ high_bits c bits x (in_site_order c)
     → added ≡ text ++ output_line (shown c x (low_bits c bits x (in_site_order c))) → Goes c first xs (cycle + 1) new rest added
-next_cycle c first xs cycle bits new x rest text added old rests new_is long added_is =
+next_cycle c first xs cycle bits new x rest text added old rests new_is added_is =
     let high = high_bits c bits x (in_site_order c) in
     let line = output_line (shown c x (low_bits c bits x (in_site_order c))) in
     record {
-      one_each = long ∙ old.one_each;
       rests = λ more. old.rests (rests.0, rests.1, subst (λ (b : List Bool). Rests c b rest) new_is more);
       text_is = ap (λ (b : List Bool). added ++ output_text (outputs c b rest)) new_is ∙ ap (λ (t : List ℕ). t ++ output_text (outputs c high rest)) added_is
           ∙ append_assoc text line (output_text (outputs c high rest)) ∙ old.text_is;
@@ -58,10 +56,10 @@ stops_at p first xs cycle bits x rest to_come text m spot long e old unrests at 
 
 -- one cycle more, of the cycles to come
 pub goes_on : (c : Circuit) (first : List Bool) (xs : List (List Bool)) (cycle : ℕ) (bits new : List Bool) (x : List Bool) (rest to_come : List (List Bool)) (text added : List ℕ)
-    → to_come ≡ x ∷ rest → Goes c first xs cycle bits to_come text → RestsIn c bits x → new ≡ high_bits c bits x (in_site_order c) → length new ≡ length bits
+    → to_come ≡ x ∷ rest → Goes c first xs cycle bits to_come text → RestsIn c bits x → new ≡ high_bits c bits x (in_site_order c)
     → added ≡ text ++ output_line (shown c x (low_bits c bits x (in_site_order c))) → Goes c first xs (cycle + 1) new rest added
-goes_on c first xs cycle bits new x rest to_come text added e old rests new_is long added_is =
-    next_cycle c first xs cycle bits new x rest text added (subst (λ (ys : List (List Bool)). Goes c first xs cycle bits ys text) e old) rests new_is long added_is
+goes_on c first xs cycle bits new x rest to_come text added e old rests new_is added_is =
+    next_cycle c first xs cycle bits new x rest text added (subst (λ (ys : List (List Bool)). Goes c first xs cycle bits ys text) e old) rests new_is added_is
 
 -- the spot that is read
 pub spot_at : (spots read : List Spot) (m n : ℕ) (d : Spot) → read ≡ spots → n ≡ m → m < length spots → slice_get spots m ≡ Some (get_or read n d)

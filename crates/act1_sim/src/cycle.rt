@@ -1,13 +1,15 @@
-ghost use Rattle.std.specs.Prelude.{◌≡◌, ◌++◌, ◌<◌, ◌^◌, length, map, false, OnOk, IfErr};
+ghost use Rattle.std.specs.Prelude.{◌≡◌, ◌++◌, length, map, false, OnOk, IfErr};
 ghost use Rattle.act1_circuit.specs.declared.circuit.Output.{Output};
 ghost use Rattle.act1_circuit.specs.Firing.{source_value, shown, low_bits, high_bits, fire_all, site_wave, IsAtRest, IsLeastUnrest};
+ghost use Rattle.act1_engine.specs.Engines.{engine_bits, IsEngineOf};
 ghost use Rattle.act1_sim.specs.Cycles.{in_site_order, RestsIn, UnrestsIn};
 ghost use Rattle.act1_sim.specs.SimulationSteps.{OnUnrest};
 ghost use Rattle.act1_sim.specs.Vectors.{bits_of, digit, output_line};
 
 use crate::vectors::bits_of;
 use act1_base::{Memory, Stop};
-use act1_circuit::{Circuit, settle, value_of};
+use act1_circuit::{Circuit, value_of};
+use act1_engine::Engine;
 use std::alloc::Global;
 
 // The character of a bit.
@@ -38,15 +40,15 @@ fn fire_wave(
     circuit: &Circuit,
     clock: bool,
     inputs: &[bool],
-    bits: &mut [bool],
+    engine: &mut Engine,
 ) -> Result<(), Stop<u16>>
-    requires one_each { length bits.old ≡ length circuit.now.modules }
-    requires few { length bits.old < 2 ^ 16 }
-    ensures wave { bits.new ≡ fire_all circuit.now clock inputs.now bits.old (site_wave (length circuit.now.modules)) }
-    ensures ok { OnOk result (IsAtRest circuit.now clock inputs.now bits.new) }
-    ensures err { IfErr result (OnUnrest (IsLeastUnrest circuit.now clock inputs.now bits.new)) }
+    requires { IsEngineOf circuit.now engine.old }
+    ensures is { IsEngineOf circuit.now engine.new }
+    ensures wave { engine_bits engine.new ≡ fire_all circuit.now clock inputs.now (engine_bits engine.old) (site_wave (length circuit.now.modules)) }
+    ensures ok { OnOk result (IsAtRest circuit.now clock inputs.now (engine_bits engine.new)) }
+    ensures err { IfErr result (OnUnrest (IsLeastUnrest circuit.now clock inputs.now (engine_bits engine.new))) }
 {
-    match settle(circuit, clock, inputs, bits) {
+    match engine.settle(circuit, clock, inputs) {
         None => Ok(()),
         Some(module) => Err(Stop::Fault(module)),
     }
@@ -59,19 +61,18 @@ pub fn run_cycle(
     alloc: Global,
     circuit: &Circuit,
     line: &[u8],
-    bits: &mut Vec<bool>,
+    engine: &mut Engine,
     text: &mut Vec<u8>,
 ) -> Result<(), Stop<u16>>
-    requires one_each { length bits.old.items ≡ length circuit.now.modules }
-    requires few { length bits.old.items < 2 ^ 16 }
-    ensures rests { OnOk result (RestsIn circuit.now bits.old.items (bits_of line.now)) }
-    ensures long { length bits.new.items ≡ length bits.old.items }
-    ensures bits { OnOk result (bits.new.items ≡ high_bits circuit.now bits.old.items (bits_of line.now) (in_site_order circuit.now)) }
-    ensures text { OnOk result (text.new.items ≡ text.old.items ++ output_line (shown circuit.now (bits_of line.now) (low_bits circuit.now bits.old.items (bits_of line.now) (in_site_order circuit.now)))) }
-    ensures err { IfErr result (OnUnrest (UnrestsIn circuit.now bits.old.items (bits_of line.now))) }
+    requires { IsEngineOf circuit.now engine.old }
+    ensures is { IsEngineOf circuit.now engine.new }
+    ensures rests { OnOk result (RestsIn circuit.now (engine_bits engine.old) (bits_of line.now)) }
+    ensures bits { OnOk result (engine_bits engine.new ≡ high_bits circuit.now (engine_bits engine.old) (bits_of line.now) (in_site_order circuit.now)) }
+    ensures text { OnOk result (text.new.items ≡ text.old.items ++ output_line (shown circuit.now (bits_of line.now) (low_bits circuit.now (engine_bits engine.old) (bits_of line.now) (in_site_order circuit.now)))) }
+    ensures err { IfErr result (OnUnrest (UnrestsIn circuit.now (engine_bits engine.old) (bits_of line.now))) }
 {
     let inputs = bits_of(alloc, line)?;
-    fire_wave(circuit, false, &inputs, bits)?;
-    print_outputs(circuit, &inputs, bits, text)?;
-    fire_wave(circuit, true, &inputs, bits)
+    fire_wave(circuit, false, &inputs, engine)?;
+    print_outputs(circuit, &inputs, engine.bits(), text)?;
+    fire_wave(circuit, true, &inputs, engine)
 }

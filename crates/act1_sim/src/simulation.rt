@@ -1,5 +1,7 @@
-ghost use Rattle.std.specs.Prelude.{◌≡◌, ◌≢◌, ◌≤◌, ◌<◌, ◌^◌, length, map, All, AllPairs, Ok, IfOk, IfErr};
+ghost use Rattle.std.specs.Prelude.{◌≡◌, ◌≢◌, ◌≤◌, length, map, AllPairs, Ok, IfOk, IfErr};
 ghost use Rattle.act1_circuit.specs.declared.circuit.Start.{Start};
+ghost use Rattle.act1_circuit.specs.Range.{InRange};
+ghost use Rattle.act1_engine.specs.Engines.{engine_bits, IsEngineOf};
 ghost use Rattle.act1_fuses.specs.Rules.{KeepsRules};
 ghost use Rattle.act1_array.specs.Gives.{Gives};
 ghost use Rattle.act1_sim.specs.Cycles.{outputs, Rests};
@@ -7,7 +9,7 @@ ghost use Rattle.act1_sim.specs.Vectors.{AreVectorsOf, bits_of, output_text};
 ghost use Rattle.act1_sim.specs.Simulation.{Simulates, RefusesToSimulate};
 ghost use Rattle.act1_sim.specs.SimulationSteps.{ArrayStops, UnsettledBy, VectorStops};
 
-use crate::begin::first_bits;
+use crate::begin::first_engine;
 use crate::cycle::run_cycle;
 use crate::fault::SimFault;
 use crate::vectors::{first_no_vector, vector_lines};
@@ -15,6 +17,7 @@ use act1_array::{ArrayFault, circuit_of};
 use act1_base::Stop;
 use act1_circuit::Placed;
 use act1_device::Device;
+use act1_engine::Engine;
 use act1_fuses::FuseFile;
 use std::alloc::Global;
 
@@ -22,8 +25,7 @@ use std::alloc::Global;
 fn circuit_in(alloc: Global, device: &Device, file: &FuseFile) -> Result<Placed, SimFault>
     requires { KeepsRules device.now file.now }
     ensures ok { IfOk result (λ placed. Gives device.now file.now (Ok placed)) }
-    ensures few { IfOk result (λ placed. length placed.spots ≤ 2048) }
-    ensures starts { IfOk result (λ placed. All (λ (start : Start). start.«module» < length placed.circuit.modules) placed.circuit.starts) }
+    ensures in_range { IfOk result (λ placed. InRange placed.circuit) }
     ensures apart { IfOk result (λ placed. AllPairs (λ (s t : Start). s.«module» ≢ t.«module») placed.circuit.starts) }
     ensures err { IfErr result (ArrayStops device.now file.now) }
 {
@@ -54,19 +56,17 @@ fn run_lines(
     alloc: Global,
     placed: &Placed,
     lines: &[&[u8]],
-    first: Vec<bool>,
+    engine: &mut Engine,
 ) -> Result<Vec<u8>, SimFault>
-    requires one_each { length first.items ≡ length placed.now.circuit.modules }
+    requires is { IsEngineOf placed.now.circuit engine.old }
     requires spots { length placed.now.spots ≡ length placed.now.circuit.modules }
-    requires few { length first.items < 2 ^ 16 }
-    ensures rests { IfOk result (λ text. Rests placed.now.circuit first.items (map (λ line. bits_of line.now) lines.now)) }
-    ensures text { IfOk result (λ text. text.items ≡ output_text (outputs placed.now.circuit first.items (map (λ line. bits_of line.now) lines.now))) }
-    ensures err { IfErr result (UnsettledBy placed.now first.items (map (λ line. bits_of line.now) lines.now)) }
+    ensures rests { IfOk result (λ text. Rests placed.now.circuit (engine_bits engine.old) (map (λ line. bits_of line.now) lines.now)) }
+    ensures text { IfOk result (λ text. text.items ≡ output_text (outputs placed.now.circuit (engine_bits engine.old) (map (λ line. bits_of line.now) lines.now))) }
+    ensures err { IfErr result (UnsettledBy placed.now (engine_bits engine.old) (map (λ line. bits_of line.now) lines.now)) }
 {
-    let mut bits = first;
     let mut text = Vec::new(alloc);
     for (cycle, line) in lines.iter().enumerate() {
-        match run_cycle(alloc, &placed.circuit, line, &mut bits, &mut text) {
+        match run_cycle(alloc, &placed.circuit, line, engine, &mut text) {
             Ok(()) => {}
             Err(Stop::Fault(module)) => {
                 return Err(SimFault::Unsettled {
@@ -105,8 +105,8 @@ pub fn simulate(
 {
     let placed = circuit_in(alloc, device, file)?;
     let lines = vectors_in(alloc, vectors, placed.circuit.inputs.len())?;
-    let Ok(bits) = first_bits(alloc, &placed.circuit, fill) else {
+    let Ok(mut engine) = first_engine(alloc, &placed.circuit, fill) else {
         return Err(SimFault::Memory);
     };
-    run_lines(alloc, &placed, &lines, bits)
+    run_lines(alloc, &placed, &lines, &mut engine)
 }

@@ -25,7 +25,7 @@ use Rattle.act1_frame.proofs.Runs.{IsLawful, IsSaid, done_said, said_at, file_wr
 use Rattle.act1_frame.proofs.Stages.{reads_after}
 use Rattle.act1_words.specs.declared.command.DemoWords.{DemoWords}
 use Rattle.act1_top.specs.Files.{file_of, DeviceRefused}
-use Rattle.act1_top.specs.DemoCommand.{demo_reads, demo_writes, demo_writes_at, demo_settings, demo_done_text, demo_refuted_text, demo_spent_text, demo_ending, demo_stop_ending, DemoEnds, DemoNetEnds, DemoMayEnd, DemoReads, DemoIsDone, DemoIsVertical, DemoIsRefuted, DemoIsSpent}
+use Rattle.act1_top.specs.DemoCommand.{demo_reads, demo_writes, demo_writes_at, demo_settings, no_helping, demo_done_text, demo_refuted_text, demo_spent_text, demo_ending, demo_stop_ending, DemoEnds, DemoNetEnds, DemoMayEnd, DemoReads, DemoIsDone, DemoIsVertical, DemoIsRefuted, DemoIsSpent}
 use Rattle.act1_top.specs.FlowCommand.{needed_text, vertical_text, FlowIsChosen}
 use Rattle.act1_top.specs.Laws.{TextsAreOne}
 use Rattle.act1_top.proofs.FlowAnswers.{refutation, spending}
@@ -38,8 +38,8 @@ stop_is : (why : FlowStop) (e : Ending) → e ≡ demo_stop_ending why → e.sta
 stop_is (stop.Pads needed have) e is = status_of e (demo_stop_ending (stop.Pads needed have)) is
 stop_is (stop.Full needed have) e is = status_of e (demo_stop_ending (stop.Full needed have)) is
 stop_is (stop.Vertical source channel plan) e is = status_of e (demo_stop_ending (stop.Vertical source channel plan)) is
-stop_is (stop.Refuted report connections) e is = status_of e (demo_stop_ending (stop.Refuted report connections)) is
-stop_is (stop.Spent plan channel conflicts tracks connections) e is = status_of e (demo_stop_ending (stop.Spent plan channel conflicts tracks connections)) is
+stop_is (stop.Refuted report connections tally) e is = status_of e (demo_stop_ending (stop.Refuted report connections tally)) is
+stop_is (stop.Spent plan channel conflicts tracks connections tally) e is = status_of e (demo_stop_ending (stop.Spent plan channel conflicts tracks connections tally)) is
 stop_is stop.Memory e is = status_of e (demo_stop_ending stop.Memory) is
 
 module _ (Usage : Type 0) (words : DemoWords) (before after : Shelf) where
@@ -49,12 +49,12 @@ module _ (Usage : Type 0) (words : DemoWords) (before after : Shelf) where
   said_fine : (status : ℕ) (text : List ℕ) → 4 ≤ status → status ≢ 16 → Fine (with_text status text)
   said_fine status text low other = text_fine Usage (demo_reads words) (demo_writes_at words) before after status text (with_text status text) (content status low other) refl
 
-  stop_fine : (dev : Device) (net : Blif) (why : FlowStop) → IsStop dev net demo_settings why → Fine (demo_stop_ending why)
+  stop_fine : (dev : Device) (net : Blif) (why : FlowStop) → IsStop dev net demo_settings no_helping why → Fine (demo_stop_ending why)
   stop_fine dev net (stop.Pads needed have) h = said_fine 8 (needed_text (codes "pads") needed have) (omega arith) (λ n. absurd (omega (arith, n)))
   stop_fine dev net (stop.Full needed have) h = said_fine 8 (needed_text (codes "sites") needed have) (omega arith) (λ n. absurd (omega (arith, n)))
   stop_fine dev net (stop.Vertical source channel plan) h = said_fine 9 (vertical_text source channel plan) (omega arith) (λ n. absurd (omega (arith, n)))
-  stop_fine dev net (stop.Refuted report connections) h = said_fine 10 (demo_refuted_text report connections) (omega arith) (λ n. absurd (omega (arith, n)))
-  stop_fine dev net (stop.Spent plan channel conflicts tracks connections) h = said_fine 11 (demo_spent_text channel conflicts tracks connections plan) (omega arith) (λ n. absurd (omega (arith, n)))
+  stop_fine dev net (stop.Refuted report connections tally) h = said_fine 10 (demo_refuted_text report connections) (omega arith) (λ n. absurd (omega (arith, n)))
+  stop_fine dev net (stop.Spent plan channel conflicts tracks connections tally) h = said_fine 11 (demo_spent_text channel conflicts tracks connections plan) (omega arith) (λ n. absurd (omega (arith, n)))
   stop_fine dev net stop.Memory h = absurd h
 
   done_fine : (lines : List ℕ) (file : FuseFile) (modules : ℕ) → Fine (demo_ending words lines file modules)
@@ -80,12 +80,12 @@ module _ (words : DemoWords) (dev : Device) (net : Blif) where
   abbrev PadsOrChosen : Ending → Type 0
   PadsOrChosen e = ((length dev.pads < pads_needed net) × (e.status ≡ 8)) ⊎ (HasPads dev net × FlowIsChosen e)
 
-  which_stop : (why : FlowStop) (e : Ending) → IsStop dev net demo_settings why → e ≡ demo_stop_ending why → PadsOrChosen e
+  which_stop : (why : FlowStop) (e : Ending) → IsStop dev net demo_settings no_helping why → e ≡ demo_stop_ending why → PadsOrChosen e
   which_stop (stop.Pads needed have) e h is = let needed_is = h.0 in let have_is = h.1 in let less = h.2 in inl (omega arith, stop_is (stop.Pads needed have) e is)
   which_stop (stop.Full needed have) e h is = inr (h.0, inr (inr (inr (inr (needed, have, is)))))
   which_stop (stop.Vertical source channel plan) e h is = inr (h.0, inr (inl (stop_is (stop.Vertical source channel plan) e is)))
-  which_stop (stop.Refuted report connections) e h is = inr (h.0, inr (inr (inl (stop_is (stop.Refuted report connections) e is))))
-  which_stop (stop.Spent plan channel conflicts tracks connections) e h is = inr (h.0, inr (inr (inr (inl (stop_is (stop.Spent plan channel conflicts tracks connections) e is)))))
+  which_stop (stop.Refuted report connections tally) e h is = inr (h.0, inr (inr (inl (stop_is (stop.Refuted report connections tally) e is))))
+  which_stop (stop.Spent plan channel conflicts tracks connections tally) e h is = inr (h.0, inr (inr (inr (inl (stop_is (stop.Spent plan channel conflicts tracks connections tally) e is)))))
   which_stop stop.Memory e h is = absurd h
 
   which : (e : Ending) → DemoEnds words dev net e → PadsOrChosen e
@@ -145,12 +145,12 @@ module _ (words : DemoWords) (before : World) (result : ℕ) (after : World) (e 
   done_by : (s : Behind) → DemoEnds words s.dev s.net e → e.status ≡ 0 → result ≡ 0 → DemoIsDone words before after
   done_by s (inl (why, h, is)) nought r = absurd (not_done why h (sym (stop_is why e is) ∙ nought))
     where
-      not_done : (why : FlowStop) → IsStop s.dev s.net demo_settings why → stop_status why ≡ 0 → ⊥
+      not_done : (why : FlowStop) → IsStop s.dev s.net demo_settings no_helping why → stop_status why ≡ 0 → ⊥
       not_done (stop.Pads needed have) h n = absurd (omega (arith, n))
       not_done (stop.Full needed have) h n = absurd (omega (arith, n))
       not_done (stop.Vertical source channel plan) h n = absurd (omega (arith, n))
-      not_done (stop.Refuted report connections) h n = absurd (omega (arith, n))
-      not_done (stop.Spent plan channel conflicts tracks connections) h n = absurd (omega (arith, n))
+      not_done (stop.Refuted report connections tally) h n = absurd (omega (arith, n))
+      not_done (stop.Spent plan channel conflicts tracks connections tally) h n = absurd (omega (arith, n))
       not_done stop.Memory h n = absurd h
   done_by s (inr (pads, file, modules, lines, realizes, shown, is)) nought r =
       let text = file_written 0 done_said e (record { name = words.fuses; bytes = fuse_text file }) before.shelf before.paper result after.shelf after.paper (ap (λ (p : Ending). p.file) is) leaves r in
@@ -171,13 +171,13 @@ module _ (words : DemoWords) (before : World) (result : ℕ) (after : World) (e 
   vertical_by s (inr (pads, file, modules, lines, realizes, shown, is)) nine r = let nought = status_of e (demo_ending words lines file modules) is in absurd (omega (arith, nine))
   vertical_by s (inl (why, h, is)) nine r = by why h is (sym (stop_is why e is) ∙ nine)
     where
-      by : (why : FlowStop) → IsStop s.dev s.net demo_settings why → e ≡ demo_stop_ending why → stop_status why ≡ 9 → DemoIsVertical words before after
+      by : (why : FlowStop) → IsStop s.dev s.net demo_settings no_helping why → e ≡ demo_stop_ending why → stop_status why ≡ 9 → DemoIsVertical words before after
       by (stop.Pads needed have) h is n = absurd (omega (arith, n))
       by (stop.Full needed have) h is n = absurd (omega (arith, n))
       by (stop.Vertical source channel plan) h is n =
           record { dev = s.dev; net = s.net; plan = plan; source = source; channel = channel; read = read_of s; is = h.1; printed = printed_text 9 (said_at 9 (λ n. absurd (omega (arith, n))) (λ n. absurd (omega (arith, n)))) (vertical_text source channel plan) is r }
-      by (stop.Refuted report connections) h is n = absurd (omega (arith, n))
-      by (stop.Spent plan channel conflicts tracks connections) h is n = absurd (omega (arith, n))
+      by (stop.Refuted report connections tally) h is n = absurd (omega (arith, n))
+      by (stop.Spent plan channel conflicts tracks connections tally) h is n = absurd (omega (arith, n))
       by stop.Memory h is n = absurd h
 
   module _ (laws : TextsAreOne) where
@@ -185,33 +185,34 @@ module _ (words : DemoWords) (before : World) (result : ℕ) (after : World) (e 
     refuted_by s (inr (pads, file, modules, lines, realizes, shown, is)) ten r = let nought = status_of e (demo_ending words lines file modules) is in absurd (omega (arith, ten))
     refuted_by s (inl (why, h, is)) ten r = by why h is (sym (stop_is why e is) ∙ ten)
       where
-        by : (why : FlowStop) → IsStop s.dev s.net demo_settings why → e ≡ demo_stop_ending why → stop_status why ≡ 10 → DemoIsRefuted words before after
+        by : (why : FlowStop) → IsStop s.dev s.net demo_settings no_helping why → e ≡ demo_stop_ending why → stop_status why ≡ 10 → DemoIsRefuted words before after
         by (stop.Pads needed have) h is n = absurd (omega (arith, n))
         by (stop.Full needed have) h is n = absurd (omega (arith, n))
         by (stop.Vertical source channel plan) h is n = absurd (omega (arith, n))
-        by (stop.Refuted report connections) (pads, problem, first, count, checked) is n = record {
+        by (stop.Refuted report connections tally) (pads, problem, first, count, checked) is n = record {
           dev = s.dev;
           net = s.net;
           report = report;
           problem = problem;
           read = read_of s;
-          refuted = refutation laws s.dev s.net demo_settings report problem first checked;
+          tally = tally;
+          refuted = refutation laws s.dev s.net demo_settings no_helping report problem tally first checked;
           printed = subst (λ (m : ℕ). PrintsAll (demo_refuted_text report m) before.paper after.paper) count
               (printed_text 10 (said_at 10 (λ n. absurd (omega (arith, n))) (λ n. absurd (omega (arith, n)))) (demo_refuted_text report connections) is r);
         }
-        by (stop.Spent plan channel conflicts tracks connections) h is n = absurd (omega (arith, n))
+        by (stop.Spent plan channel conflicts tracks connections tally) h is n = absurd (omega (arith, n))
         by stop.Memory h is n = absurd h
 
     spent_by : (s : Behind) → DemoEnds words s.dev s.net e → e.status ≡ 11 → result ≡ 11 → DemoIsSpent words before after
     spent_by s (inr (pads, file, modules, lines, realizes, shown, is)) eleven r = let nought = status_of e (demo_ending words lines file modules) is in absurd (omega (arith, eleven))
     spent_by s (inl (why, h, is)) eleven r = by why h is (sym (stop_is why e is) ∙ eleven)
       where
-        by : (why : FlowStop) → IsStop s.dev s.net demo_settings why → e ≡ demo_stop_ending why → stop_status why ≡ 11 → DemoIsSpent words before after
+        by : (why : FlowStop) → IsStop s.dev s.net demo_settings no_helping why → e ≡ demo_stop_ending why → stop_status why ≡ 11 → DemoIsSpent words before after
         by (stop.Pads needed have) h is n = absurd (omega (arith, n))
         by (stop.Full needed have) h is n = absurd (omega (arith, n))
         by (stop.Vertical source channel plan) h is n = absurd (omega (arith, n))
-        by (stop.Refuted report connections) h is n = absurd (omega (arith, n))
-        by (stop.Spent plan channel conflicts tracks connections) (pads, problem, first, tracks_is, count) is n =
+        by (stop.Refuted report connections tally) h is n = absurd (omega (arith, n))
+        by (stop.Spent plan channel conflicts tracks connections tally) (pads, problem, first, tracks_is, count) is n =
             let text = printed_text 11 (said_at 11 (λ n. absurd (omega (arith, n))) (λ n. absurd (omega (arith, n)))) (demo_spent_text channel conflicts tracks connections plan) is r in
             record {
               dev = s.dev;
@@ -220,10 +221,11 @@ module _ (words : DemoWords) (before : World) (result : ℕ) (after : World) (e 
               channel = channel;
               problem = problem;
               read = read_of s;
-              spent = spending laws s.dev s.net demo_settings plan channel conflicts problem first;
+              tally = tally;
+              spent = spending laws s.dev s.net demo_settings no_helping plan channel conflicts problem tally first;
               printed = subst (λ (m : ℕ). PrintsAll (demo_spent_text channel demo_settings.budget (length problem.tracks) m plan) before.paper after.paper) count
                   (subst (λ (m : ℕ). PrintsAll (demo_spent_text channel demo_settings.budget m connections plan) before.paper after.paper) tracks_is
-                  (subst (λ (m : ℕ). PrintsAll (demo_spent_text channel m tracks connections plan) before.paper after.paper) first.is.0 text));
+                  (subst (λ (m : ℕ). PrintsAll (demo_spent_text channel m tracks connections plan) before.paper after.paper) first.is.1.0 text));
             }
         by stop.Memory h is n = absurd h
 

@@ -5,6 +5,7 @@ pub mod CoverLaws
 pub mod DemoLaws
 pub mod ExtractLaws
 pub mod FlowAnswers
+pub mod FlowCalls
 pub mod FlowLaws
 pub mod FlowSure
 pub mod Places

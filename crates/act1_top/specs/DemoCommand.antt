@@ -1,6 +1,6 @@
 -- The command `demo`.
-use Rattle.std.specs.Prelude.{ℕ, ◌≡◌, ◌⊎◌, ◌==◌, if◌then◌else◌, List, [], ◌∷◌, ◌++◌, length, codes, Some}
-use Rattle.act1_outside.specs.Outside.{Shelf}
+use Rattle.std.specs.Prelude.{ℕ, ◌≡◌, ◌⊎◌, ◌==◌, if◌then◌else◌, List, [], ◌∷◌, ◌++◌, length, codes, Some, None}
+use Rattle.act1_outside.specs.Outside.{Bench, Shelf}
 use Rattle.act1_blif.specs.declared.blif.Blif.{Blif}
 use Rattle.act1_blifread.specs.Text.{BlifText}
 use Rattle.act1_channel.specs.declared.problem.Problem.{Problem}
@@ -15,7 +15,9 @@ use Rattle.act1_plan.specs.declared.plan.Plan.{Plan}
 use Rattle.act1_plan.specs.Texts.{plan_text}
 use Rattle.act1_report.specs.declared.report.Report.{Report}
 use Rattle.act1_report.specs.Texts.{report_text}
+use Rattle.act1_farm.specs.declared.outcome.Tally.{Tally}
 use Rattle.act1_flow.specs.Flow.{HasPads, IsStop, IsVertical}
+use Rattle.act1_flow.specs.Helping.{Helping, helping_of}
 use Rattle.act1_flow.specs.Realizes.{Realizes}
 use Rattle.act1_flow.specs.declared.answer.FlowStop.{FlowStop}
 use Rattle.act1_flow.specs.declared.answer.FlowStop.TheVariants as stop
@@ -43,7 +45,14 @@ demo_writes_at words status = if status == 0 then words.fuses ∷ [] else []
 
 -- what the flow is told: the defaults of `flow`
 abbrev pub demo_settings : Settings
-demo_settings = record { k = 3; budget = 100000; seed = 0 }
+demo_settings = record { k = 3; budget = 100000; seed = 0; jobs = 0 }
+
+-- no helpers are there
+abbrev pub no_bench : Bench
+no_bench = record { open_tickets = []; next = 0; faults = 0; story = None }
+
+abbrev pub no_helping : Helping
+no_helping = helping_of [] no_bench no_bench
 
 -- what is printed of an antifuse file that is done: the lines that the netlist shows, and the numbers of bits, modules and antifuses
 unfoldable pub demo_line : ℕ → ℕ → ℕ → List ℕ
@@ -73,14 +82,14 @@ abbrev pub demo_stop_ending : FlowStop → Ending
 demo_stop_ending (stop.Pads needed have) = with_text 8 (needed_text (codes "pads") needed have)
 demo_stop_ending (stop.Full needed have) = with_text 8 (needed_text (codes "sites") needed have)
 demo_stop_ending (stop.Vertical net channel plan) = with_text 9 (vertical_text net channel plan)
-demo_stop_ending (stop.Refuted report connections) = with_text 10 (demo_refuted_text report connections)
-demo_stop_ending (stop.Spent plan channel conflicts tracks connections) = with_text 11 (demo_spent_text channel conflicts tracks connections plan)
+demo_stop_ending (stop.Refuted report connections tally) = with_text 10 (demo_refuted_text report connections)
+demo_stop_ending (stop.Spent plan channel conflicts tracks connections tally) = with_text 11 (demo_spent_text channel conflicts tracks connections plan)
 demo_stop_ending stop.Memory = refusal 15 (codes "memory" ∷ [])
 
 -- what the flow of the counter for a device ends with
 abbrev pub DemoEnds : DemoWords → Device → Blif → Ending → Type 0
 DemoEnds words dev net e =
-    ((why : FlowStop) × IsStop dev net demo_settings why × (e ≡ demo_stop_ending why))
+    ((why : FlowStop) × IsStop dev net demo_settings no_helping why × (e ≡ demo_stop_ending why))
     ⊎ (HasPads dev net × (file : FuseFile) × (modules : ℕ) × (lines : List ℕ) × Realizes dev net demo_settings file modules × AreLinesOf net lines × (e ≡ demo_ending words lines file modules))
 
 -- the netlist is that of the demo's text of so many bits
@@ -129,7 +138,8 @@ pub record DemoIsRefuted (words : DemoWords) (before after : World) : Type 0 whe
   pub report : Report
   pub problem : Problem
   pub read : DemoReads words before dev net
-  pub refuted : IsRefutation dev net demo_settings report problem
+  pub tally : Tally
+  pub refuted : IsRefutation dev net demo_settings no_helping report problem tally
   pub printed : PrintsAll (demo_refuted_text report (length problem.connections)) before.paper after.paper
 
 -- A search that is spent, as status 11 of `flow` says it.
@@ -140,5 +150,6 @@ pub record DemoIsSpent (words : DemoWords) (before after : World) : Type 0 where
   pub channel : ℕ
   pub problem : Problem
   pub read : DemoReads words before dev net
-  pub spent : IsSpending dev net demo_settings plan channel problem
+  pub tally : Tally
+  pub spent : IsSpending dev net demo_settings no_helping plan channel problem tally
   pub printed : PrintsAll (demo_spent_text channel demo_settings.budget (length problem.tracks) (length problem.connections) plan) before.paper after.paper

@@ -1,8 +1,7 @@
 -- The command `flow`.
 use Rattle.std.specs.Prelude.{ℕ, ◌≡◌, ◌<◌, ◌⊎◌, ◌==◌, if◌then◌else◌, List, [], ◌∷◌, ◌++◌, length, codes, Some, Ok, Err}
 use Rattle.std.specs.Fmt.{decimal}
-use Rattle.act1_base.specs.Words.{text_line}
-use Rattle.act1_outside.specs.Outside.{Shelf}
+use Rattle.act1_outside.specs.Outside.{Bench, Shelf}
 use Rattle.act1_device.specs.declared.device.Device.{Device}
 use Rattle.act1_devread.specs.Text.{DeviceText}
 use Rattle.act1_blif.specs.declared.blif.Blif.{Blif}
@@ -20,15 +19,18 @@ use Rattle.act1_plan.specs.declared.plan.Plan.{Plan}
 use Rattle.act1_plan.specs.Texts.{plan_text}
 use Rattle.act1_report.specs.declared.report.Report.{Report}
 use Rattle.act1_report.specs.Texts.{report_text}
-use Rattle.act1_flow.specs.Flow.{HasPads, IsStop, IsVertical}
-use Rattle.act1_flow.specs.Realizes.{Realizes, IsPlanFor, IsEmission, plan_with}
+use Rattle.act1_farm.specs.declared.outcome.Tally.{Tally}
+use Rattle.act1_flow.specs.Flow.{IsHelpedTo, IsRoutedFor, IsStop, IsVertical, WereAskedFor}
+use Rattle.act1_flow.specs.Helping.{Helping, helping_of}
+use Rattle.act1_flow.specs.Realizes.{IsPlanFor, IsEmission, plan_with}
 use Rattle.act1_flow.specs.declared.answer.FlowStop.{FlowStop}
 use Rattle.act1_flow.specs.declared.answer.FlowStop.TheVariants as stop
+use Rattle.act1_flow.specs.declared.answer.Routed.{Routed}
 use Rattle.act1_flow.specs.declared.answer.Settings.{Settings}
 use Rattle.act1_frame.specs.declared.ending.Ending.{Ending}
 use Rattle.act1_frame.specs.Endings.{refusal, with_text}
 use Rattle.act1_frame.specs.Leaving.{NowHolds, PrintsAll}
-use Rattle.act1_frame.specs.Reading.{Wanted, Holds}
+use Rattle.act1_frame.specs.Reading.{Found, Wanted, Holds}
 use Rattle.act1_frame.specs.Stages.{Reads}
 use Rattle.act1_frame.specs.World.{World}
 use Rattle.act1_words.specs.declared.command.FlowWords.{FlowWords}
@@ -47,19 +49,26 @@ flow_writes_at words status = if status == 0 then words.fuses ∷ [] else if sta
 
 -- what the flow is told by the words
 abbrev pub settings_of : FlowWords → Settings
-settings_of words = record { k = words.k; budget = words.budget; seed = words.seed }
+settings_of words = record { k = words.k; budget = words.budget; seed = words.seed; jobs = words.jobs }
+
+-- the helpers that the flow asks: those of the program that the words name
+abbrev pub helping_in : FlowWords → Bench → Bench → Helping
+helping_in words before after = helping_of words.program before after
 
 -- a number with its name in front, each behind a space
 abbrev pub counted : List ℕ → ℕ → List ℕ
 counted name count = 32 ∷ name ++ 32 ∷ decimal count
 
--- how many helpers were asked for and gave an answer that could be used: none is asked yet
-abbrev pub helpers_text : List ℕ
-helpers_text = text_line (codes "helpers asked 0 taken 0 faults 0" ∷ [])
+-- for how many channels helpers were asked, for how many a usable answer came, and how many starts and finishes failed
+unfoldable pub helpers_line : ℕ → ℕ → ℕ → List ℕ
+helpers_line asked taken faults = codes "helpers" ++ counted (codes "asked") asked ++ counted (codes "taken") taken ++ counted (codes "faults") faults ++ 10 ∷ []
+
+abbrev pub helpers_text : Tally → List ℕ
+helpers_text tally = helpers_line tally.asked tally.taken tally.faults
 
 -- what is printed of an antifuse file that is done
-abbrev pub done_text : ℕ → ℕ → List ℕ
-done_text modules antifuses = codes "done" ++ counted (codes "modules") modules ++ counted (codes "fuses") antifuses ++ 10 ∷ [] ++ helpers_text
+abbrev pub done_text : ℕ → ℕ → Tally → List ℕ
+done_text modules antifuses tally = codes "done" ++ counted (codes "modules") modules ++ counted (codes "fuses") antifuses ++ 10 ∷ [] ++ helpers_text tally
 
 -- .. of pads or sites that are too few
 abbrev pub needed_text : List ℕ → ℕ → ℕ → List ℕ
@@ -73,30 +82,30 @@ vertical_text net channel plan = codes "vertical net " ++ source_word net ++ cou
 unfoldable pub unroutable_line : ℕ → ℕ → ℕ → List ℕ
 unroutable_line channel connections steps = codes "unroutable" ++ counted (codes "channel") channel ++ counted (codes "connections") connections ++ counted (codes "steps") steps ++ 10 ∷ []
 
-abbrev pub refuted_text : ℕ → ℕ → ℕ → List ℕ
-refuted_text channel connections steps = unroutable_line channel connections steps ++ helpers_text
+abbrev pub refuted_text : ℕ → ℕ → ℕ → Tally → List ℕ
+refuted_text channel connections steps tally = unroutable_line channel connections steps ++ helpers_text tally
 
 -- .. of a channel whose search spent its budget
 unfoldable pub spent_line : ℕ → ℕ → ℕ → ℕ → List ℕ
 spent_line channel conflicts tracks connections =
     codes "spent" ++ counted (codes "channel") channel ++ counted (codes "conflicts") conflicts ++ counted (codes "tracks") tracks ++ counted (codes "connections") connections ++ 10 ∷ []
 
-abbrev pub spent_text : ℕ → ℕ → ℕ → ℕ → Plan → List ℕ
-spent_text channel conflicts tracks connections plan = spent_line channel conflicts tracks connections ++ plan_text plan ++ helpers_text
+abbrev pub spent_text : ℕ → ℕ → ℕ → ℕ → Plan → Tally → List ℕ
+spent_text channel conflicts tracks connections plan tally = spent_line channel conflicts tracks connections ++ plan_text plan ++ helpers_text tally
 
 -- a netlist that is on the device: the antifuse file is written, with so many modules
-abbrev pub routed_ending : List ℕ → FuseFile → ℕ → Ending
-routed_ending fuses file modules = record {
+abbrev pub routed_ending : List ℕ → FuseFile → ℕ → Tally → Ending
+routed_ending fuses file modules tally = record {
   status = 0;
-  text = done_text modules (length file.sites);
+  text = done_text modules (length file.sites) tally;
   file = Some (record { name = fuses; bytes = fuse_text file });
 }
 
 -- a channel that has no assignment: the report is written
-abbrev pub refuted_ending : List ℕ → Report → ℕ → Ending
-refuted_ending name report connections = record {
+abbrev pub refuted_ending : List ℕ → Report → ℕ → Tally → Ending
+refuted_ending name report connections tally = record {
   status = 10;
-  text = refuted_text report.channel connections (length report.log.steps);
+  text = refuted_text report.channel connections (length report.log.steps) tally;
   file = Some (record { name = name; bytes = report_text report });
 }
 
@@ -105,8 +114,8 @@ abbrev pub stop_ending : List ℕ → FlowStop → Ending
 stop_ending report (stop.Pads needed have) = with_text 8 (needed_text (codes "pads") needed have)
 stop_ending report (stop.Full needed have) = with_text 8 (needed_text (codes "sites") needed have)
 stop_ending report (stop.Vertical net channel plan) = with_text 9 (vertical_text net channel plan)
-stop_ending report (stop.Refuted made connections) = refuted_ending report made connections
-stop_ending report (stop.Spent plan channel conflicts tracks connections) = with_text 11 (spent_text channel conflicts tracks connections plan)
+stop_ending report (stop.Refuted made connections tally) = refuted_ending report made connections tally
+stop_ending report (stop.Spent plan channel conflicts tracks connections tally) = with_text 11 (spent_text channel conflicts tracks connections plan tally)
 stop_ending report stop.Memory = refusal 15 (codes "memory" ∷ [])
 
 -- the stop isn't want of memory
@@ -114,26 +123,18 @@ abbrev pub IsCause : FlowStop → Type 0
 IsCause stop.Memory = ⊥
 IsCause why = Unit {0}
 
--- helpers aren't built yet
-abbrev pub unbuilt_ending : Ending
-unbuilt_ending = refusal 18 (codes "not built" ∷ codes "jobs" ∷ [])
-
 -- what the flow of a netlist for a device ends with: a cause that there is no antifuse file, the first in the order pads, sites, long wires, channels rising; or an antifuse file that realizes the netlist
-abbrev pub FlowEnds : FlowWords → Device → Blif → Ending → Type 0
-FlowEnds words dev net e =
-    ((why : FlowStop) × IsStop dev net (settings_of words) why × (e ≡ stop_ending words.report why))
-    ⊎ (HasPads dev net × (file : FuseFile) × (modules : ℕ) × Realizes dev net (settings_of words) file modules × (e ≡ routed_ending words.fuses file modules))
+abbrev pub FlowEnds : FlowWords → Helping → Device → Blif → Ending → Type 0
+FlowEnds words helping dev net e =
+    ((why : FlowStop) × IsStop dev net (settings_of words) helping why × (e ≡ stop_ending words.report why))
+    ⊎ ((routed : Routed) × IsRoutedFor dev net (settings_of words) helping routed × (e ≡ routed_ending words.fuses routed.fuses routed.modules routed.tally))
 
--- its endings without helpers, by the stage that they come from
-abbrev pub FlowStages : FlowWords → Shelf → Shelf → Ending → Type 0
-FlowStages words before after e =
+-- its endings, by the stage that they come from
+abbrev pub FlowMayEnd : FlowWords → Helping → Shelf → Shelf → Ending → Type 0
+FlowMayEnd words helping before after e =
     Reads DeviceText DeviceRefused before after (file_of words.device) (λ dev.
     Reads BlifText NetlistRefused before after (file_of words.blif) (λ net.
-    FlowEnds words dev net)) e
-
--- its endings: helpers aren't built yet
-abbrev pub FlowMayEnd : FlowWords → Shelf → Shelf → Ending → Type 0
-FlowMayEnd words before after e = ((0 < words.jobs) × (e ≡ unbuilt_ending)) ⊎ ((words.jobs ≡ 0) × FlowStages words before after e)
+    FlowEnds words helping dev net)) e
 
 -- the sites are too few
 abbrev pub sites_ending : ℕ → ℕ → Ending
@@ -152,7 +153,7 @@ pub record FlowReads (words : FlowWords) (before : World) (dev : Device) (net : 
   pub blif_held : Holds before.shelf words.blif blif_bytes
   pub blif_text : BlifText blif_bytes net
 
--- The headline. The bytes under DEVICE are a device's text, and those under BLIF a netlist's. FUSES now holds the one text of an antifuse file that keeps the rules for that device. The array is sound: it drives no wire twice and leaves no pin and no output open. The circuit that device and antifuse file alone describe means the netlist: for every list of input vectors, every start state that agrees with the declared latch values and every order in which its modules fire, it shows the netlist's outputs in each clock cycle and comes to rest after each wave. It has at most the least count of modules, which is never more than the netlist needs at most, and what is printed are the numbers of its modules and antifuses. The plan of this circuit with the k of the words is legal and stable, and the antifuses are those of its routes, on tracks that assign the problem of each channel.
+-- The headline. The bytes under DEVICE are a device's text, and those under BLIF a netlist's. FUSES now holds the one text of an antifuse file that keeps the rules for that device. The array is sound: it drives no wire twice and leaves no pin and no output open. The circuit that device and antifuse file alone describe means the netlist: for every list of input vectors, every start state that agrees with the declared latch values and every order in which its modules fire, it shows the netlist's outputs in each clock cycle and comes to rest after each wave. It has at most the least count of modules, which is never more than the netlist needs at most, and what is printed are the numbers of its modules and antifuses. The plan of this circuit with the k of the words is legal and stable, and the antifuses are those of its routes, on tracks that assign the problem of each channel. Each channel is decided by a usable answer of a helper, or where none came by the search, and what is printed of the helpers is what came of them.
 pub record FlowIsDone (words : FlowWords) (before after : World) : Type 0 where
   pub dev : Device
   pub net : Blif
@@ -166,7 +167,9 @@ pub record FlowIsDone (words : FlowWords) (before after : World) : Type 0 where
   pub means : Means array.circuit net
   pub plan : IsPlanFor dev net (settings_of words) (plan_with dev (settings_of words) array)
   pub emission : IsEmission dev (plan_with dev (settings_of words) array) file.sites
-  pub printed : PrintsAll (done_text (length array.circuit.modules) (length file.sites)) before.paper after.paper
+  pub tally : Tally
+  pub helped : IsHelpedTo dev (plan_with dev (settings_of words) array) (settings_of words) (helping_in words before.bench after.bench) tally file.sites
+  pub printed : PrintsAll (done_text (length array.circuit.modules) (length file.sites) tally) before.paper after.paper
 
 -- A plan that the rule of routes fails for. What is printed are the net and the channel for which it fails first, and the plan: it is legal and stable, its circuit means the netlist, and it has at most the least count of modules.
 pub record FlowIsVertical (words : FlowWords) (before after : World) : Type 0 where
@@ -179,7 +182,7 @@ pub record FlowIsVertical (words : FlowWords) (before after : World) : Type 0 wh
   pub is : IsVertical dev net (settings_of words) plan (record { net = source; channel = channel })
   pub printed : PrintsAll (vertical_text source channel plan) before.paper after.paper
 
--- A channel without an assignment. REPORT now holds the text of a report: its plan is legal and stable, has the k of the words, means the netlist, has at most the least count of modules, and has routes; the search of each channel before its own ends with an assignment within the budget; its log is accepted for the problem of its channel, which so has no assignment. The command `check` accepts what is written.
+-- A channel without an assignment. REPORT now holds the text of a report: its plan is legal and stable, has the k of the words, means the netlist, has at most the least count of modules, and has routes; each channel before its own is decided by an assignment; its log is accepted for the problem of its channel, which so has no assignment. Each of these comes of a usable answer of a helper, or where none came for the channel, of its search within the budget. The command `check` accepts what is written.
 pub record FlowIsRefuted (words : FlowWords) (before after : World) : Type 0 where
   pub dev : Device
   pub net : Blif
@@ -187,10 +190,11 @@ pub record FlowIsRefuted (words : FlowWords) (before after : World) : Type 0 whe
   pub problem : Problem
   pub read : FlowReads words before dev net
   pub written : NowHolds words.report (report_text report) before.shelf after.shelf
-  pub refuted : IsRefutation dev net (settings_of words) report problem
-  pub printed : PrintsAll (refuted_text report.channel (length problem.connections) (length report.log.steps)) before.paper after.paper
+  pub tally : Tally
+  pub refuted : IsRefutation dev net (settings_of words) (helping_in words before.bench after.bench) report problem tally
+  pub printed : PrintsAll (refuted_text report.channel (length problem.connections) (length report.log.steps) tally) before.paper after.paper
 
--- A search that is spent. What is printed are the channel, the budget, the numbers of its tracks and connections, and the plan, which is as above. The search of each channel before it ends with an assignment within the budget; the conflict of the budget's number has choices, and so the budget is below `(1 + T)^n`, T the number of tracks and n that of connections.
+-- A search that is spent. What is printed are the channel, the budget, the numbers of its tracks and connections, and the plan, which is as above. Each channel before it is decided by an assignment; no usable answer of a helper came for this one, and the conflict of the budget's number of its search has choices, and so the budget is below `(1 + T)^n`, T the number of tracks and n that of connections.
 pub record FlowIsSpent (words : FlowWords) (before after : World) : Type 0 where
   pub dev : Device
   pub net : Blif
@@ -198,5 +202,19 @@ pub record FlowIsSpent (words : FlowWords) (before after : World) : Type 0 where
   pub channel : ℕ
   pub problem : Problem
   pub read : FlowReads words before dev net
-  pub spent : IsSpending dev net (settings_of words) plan channel problem
-  pub printed : PrintsAll (spent_text channel words.budget (length problem.tracks) (length problem.connections) plan) before.paper after.paper
+  pub tally : Tally
+  pub spent : IsSpending dev net (settings_of words) (helping_in words before.bench after.bench) plan channel problem tally
+  pub printed : PrintsAll (spent_text channel words.budget (length problem.tracks) (length problem.connections) plan tally) before.paper after.paper
+
+-- helpers were asked, by the front of their story at least, for the channels of a plan of the netlist that was read
+pub record WereCalled (words : FlowWords) (shelf : Shelf) (before after : Bench) : Type 0 where
+  pub dev : Device
+  pub net : Blif
+  pub device : Found DeviceText shelf (file_of words.device) dev
+  pub netlist : Found BlifText shelf (file_of words.blif) net
+  pub asked : WereAskedFor dev net (settings_of words) (helping_in words before after)
+
+-- What is seen of the helpers afterwards, whatever the status: what it was, or they were asked so. Without `--jobs` none is called.
+pub record MayCall (words : FlowWords) (shelf : Shelf) (before after : Bench) : Type 0 where
+  pub calls : (after ≡ before) ⊎ WereCalled words shelf before after
+  pub none : words.jobs ≡ 0 → after ≡ before

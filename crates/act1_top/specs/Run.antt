@@ -1,6 +1,6 @@
 -- The commands, each with the files that it reads and writes, how it may end and what its status 0 says. A new command is a line in each.
 use Rattle.std.specs.Prelude.{ℕ, ◌≡◌, List, [], ◌∷◌, codes}
-use Rattle.act1_outside.specs.Outside.{Shelf}
+use Rattle.act1_outside.specs.Outside.{Bench, Shelf}
 use Rattle.act1_frame.specs.declared.ending.Ending.{Ending}
 use Rattle.act1_frame.specs.Endings.{refusal}
 use Rattle.act1_frame.specs.Reading.{Wanted}
@@ -12,7 +12,7 @@ use Rattle.act1_top.specs.CheckCommand.{check_reads, CheckMayEnd, CheckIsDone}
 use Rattle.act1_top.specs.CoverCommand.{cover_reads, CoverMayEnd, CoverIsDone}
 use Rattle.act1_top.specs.DemoCommand.{demo_reads, demo_writes, demo_writes_at, DemoMayEnd, DemoIsDone, DemoIsVertical, DemoIsRefuted, DemoIsSpent}
 use Rattle.act1_top.specs.ExtractCommand.{extract_reads, extract_writes, extract_writes_at, ExtractMayEnd, ExtractIsDone}
-use Rattle.act1_top.specs.FlowCommand.{flow_reads, flow_writes, flow_writes_at, FlowMayEnd, FlowIsChosen, FlowIsDone, FlowIsVertical, FlowIsRefuted, FlowIsSpent}
+use Rattle.act1_top.specs.FlowCommand.{flow_reads, flow_writes, flow_writes_at, helping_in, FlowMayEnd, MayCall, FlowIsChosen, FlowIsDone, FlowIsVertical, FlowIsRefuted, FlowIsSpent}
 use Rattle.act1_top.specs.SearchCommand.{search_reads, search_writes, search_writes_at, SearchMayEnd, SearchIsDone, SearchIsRefuted, SearchIsSpent}
 use Rattle.act1_top.specs.SimCommand.{sim_reads, SimMayEnd, SimIsDone}
 use Rattle.act1_top.specs.Sure.{FlowIsComplete}
@@ -57,17 +57,17 @@ writes_at (Demo words) status = demo_writes_at words status
 abbrev pub usage_ending : Ending
 usage_ending = refusal 1 (codes "usage: act1 flow|sim|extract|check|search|cover|blif|demo" ∷ [])
 
--- the command may end so
-abbrev pub MayEnd : Command → Shelf → Shelf → Ending → Type 0
-MayEnd Unknown before after e = e ≡ usage_ending
-MayEnd (Flow words) before after e = FlowMayEnd words before after e
-MayEnd (Sim words) before after e = SimMayEnd words before after e
-MayEnd (Extract words) before after e = ExtractMayEnd words before after e
-MayEnd (Check words) before after e = CheckMayEnd words before after e
-MayEnd (Search words) before after e = SearchMayEnd words before after e
-MayEnd (Cover words) before after e = CoverMayEnd words before after e
-MayEnd (Blif words) before after e = BlifMayEnd words before after e
-MayEnd (Demo words) before after e = DemoMayEnd words before after e
+-- the command may end so, where this is seen of the helpers before and after
+abbrev pub MayEnd : Command → Bench → Bench → Shelf → Shelf → Ending → Type 0
+MayEnd Unknown bench left before after e = e ≡ usage_ending
+MayEnd (Flow words) bench left before after e = FlowMayEnd words (helping_in words bench left) before after e
+MayEnd (Sim words) bench left before after e = SimMayEnd words before after e
+MayEnd (Extract words) bench left before after e = ExtractMayEnd words before after e
+MayEnd (Check words) bench left before after e = CheckMayEnd words before after e
+MayEnd (Search words) bench left before after e = SearchMayEnd words before after e
+MayEnd (Cover words) bench left before after e = CoverMayEnd words before after e
+MayEnd (Blif words) bench left before after e = BlifMayEnd words before after e
+MayEnd (Demo words) bench left before after e = DemoMayEnd words before after e
 
 -- the endings between which a command may choose: the circuit that a netlist is mapped to is free, and what comes of it follows from that
 abbrev pub chosen_of : Command → Ending → Type 0
@@ -140,3 +140,15 @@ IsSure (Search words) before result after = Unit {0}
 IsSure (Cover words) before result after = Unit {0}
 IsSure (Blif words) before result after = Unit {0}
 IsSure (Demo words) before result after = Unit {0}
+
+-- what is seen of the helpers afterwards, which `flow` alone calls
+abbrev pub HelpersAre : Command → Shelf → Bench → Bench → Type 0
+HelpersAre Unknown shelf before after = after ≡ before
+HelpersAre (Flow words) shelf before after = MayCall words shelf before after
+HelpersAre (Sim words) shelf before after = after ≡ before
+HelpersAre (Extract words) shelf before after = after ≡ before
+HelpersAre (Check words) shelf before after = after ≡ before
+HelpersAre (Search words) shelf before after = after ≡ before
+HelpersAre (Cover words) shelf before after = after ≡ before
+HelpersAre (Blif words) shelf before after = after ≡ before
+HelpersAre (Demo words) shelf before after = after ≡ before

@@ -19,7 +19,7 @@ use Rattle.act1_top.specs.FlowCommand.{flow_reads, flow_writes, settings_of}
 abbrev pub IsFlowStatus : ℕ → Type 0
 IsFlowStatus result = (result ≡ 0) ⊎ ((result ≡ 8) ⊎ ((result ≡ 9) ⊎ ((result ≡ 10) ⊎ ((result ≡ 11) ⊎ (result ≡ 15)))))
 
--- No search is spent where the budget is at least `(1 + T)^n` for each channel of each plan of the netlist, T the number of its tracks and n that of its connections. On a device that is ample for the netlist the flow is done, or no memory is found, whatever the words.
+-- No search is spent where the budget is at least `(1 + T)^n` for each channel of each plan of the netlist, T the number of its tracks and n that of its connections. On a device that is ample for the netlist the flow is done, or no memory is found, whatever the words and the helpers.
 pub record FlowIsSure (words : FlowWords) (dev : Device) (net : Blif) (result : ℕ) : Type 0 where
   pub status : IsFlowStatus result
   pub unspent : ((plan : Plan) → IsPlanFor dev net (settings_of words) plan → IsEnoughFor dev plan words.budget) → result ≢ 11
@@ -36,6 +36,6 @@ pub record AreAccepted (words : FlowWords) (before : World) (dev : Device) (net 
   pub device : Found DeviceText before.shelf (file_of words.device) dev
   pub netlist : Found BlifText before.shelf (file_of words.blif) net
 
--- where both texts are accepted and nothing stands in the way. Helpers aren't built yet
+-- where both texts are accepted and nothing stands in the way, whatever the helpers
 abbrev pub FlowIsComplete : FlowWords → World → ℕ → World → Type 0
-FlowIsComplete words before result after = words.jobs ≡ 0 → IsUndisturbed words before after → (dev : Device) (net : Blif) → AreAccepted words before dev net → FlowIsSure words dev net result
+FlowIsComplete words before result after = IsUndisturbed words before after → (dev : Device) (net : Blif) → AreAccepted words before dev net → FlowIsSure words dev net result

@@ -5,7 +5,8 @@ ghost use Rattle.act1_frame.specs.Reading.{OnlyRead};
 ghost use Rattle.act1_frame.specs.Stages.{OnStop};
 ghost use Rattle.act1_words.specs.Commands.{IsCountInRange};
 ghost use Rattle.act1_top.specs.DemoCommand as command;
-ghost use Rattle.act1_top.specs.DemoCommand.{DemoEnds, DemoMayEnd, DemoNetEnds, demo_settings};
+ghost use Rattle.act1_flow.specs.Flow.{FlowGives};
+ghost use Rattle.act1_top.specs.DemoCommand.{DemoEnds, DemoMayEnd, DemoNetEnds, demo_settings, no_helping};
 ghost use Rattle.act1_top.specs.FlowCommand.{IsCause};
 
 use crate::flow_lines::{
@@ -20,7 +21,7 @@ use act1_device::Device;
 use act1_flow::{FlowStop, Routed, Settings, flow};
 use act1_frame::{Ending, FileText, Stop, Word, with_text};
 use act1_fuses::write_fuses;
-use act1_outside::Files;
+use act1_outside::{Files, NoHelpers};
 use act1_words::DemoWords;
 use std::alloc::Global;
 
@@ -56,6 +57,7 @@ fn settings() -> Settings
         k: 3,
         budget: 100_000,
         seed: 0,
+        jobs: 0,
     }
 }
 
@@ -109,6 +111,7 @@ fn stopped_ending(alloc: Global, stop: &FlowStop) -> Result<Ending, Memory>
         FlowStop::Refuted {
             report,
             connections,
+            tally: _,
         } => {
             write_demo_refuted(alloc, &mut text, report, *connections)?;
             Ok(with_text(10, text))
@@ -119,6 +122,7 @@ fn stopped_ending(alloc: Global, stop: &FlowStop) -> Result<Ending, Memory>
             conflicts,
             tracks,
             connections,
+            tally: _,
         } => {
             write_demo_spent(
                 alloc,
@@ -135,6 +139,15 @@ fn stopped_ending(alloc: Global, stop: &FlowStop) -> Result<Ending, Memory>
     }
 }
 
+// What the flow makes of the counter, without helpers.
+fn flow_alone(alloc: Global, device: &Device, net: &Blif) -> Result<Routed, FlowStop>
+    ensures { FlowGives device.now net.now demo_settings no_helping result }
+{
+    let settings = settings();
+    let mut helpers = NoHelpers::new();
+    flow(alloc, device, net, &settings, "", &mut helpers)
+}
+
 // The counter on the device, as the text of an antifuse file and the lines that it shows, or why it isn't there.
 fn counter_ends(
     alloc: Global,
@@ -145,8 +158,7 @@ fn counter_ends(
     requires { length net.now.inputs ≡ 1 }
     ensures { IfOk result (DemoEnds words.now device.now net.now) }
 {
-    let settings = settings();
-    match flow(alloc, device, net, &settings) {
+    match flow_alone(alloc, device, net) {
         Ok(routed) => {
             let lines = demo_lines(alloc, net)?;
             Ok(routed_ending(alloc, words, lines, &routed)?)

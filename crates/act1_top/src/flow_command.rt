@@ -3,17 +3,19 @@ ghost use Rattle.act1_frame.specs.Reading.{OnlyRead};
 ghost use Rattle.act1_frame.specs.Stages.{OnStop};
 ghost use Rattle.act1_words.specs.Commands.{IsInRanges};
 ghost use Rattle.act1_top.specs.FlowCommand as command;
-ghost use Rattle.act1_top.specs.FlowCommand.{FlowEnds, FlowStages, FlowMayEnd, IsCause};
+ghost use Rattle.act1_flow.specs.Flow.{FlowCalls};
+ghost use Rattle.act1_top.specs.FlowCommand.{FlowEnds, FlowMayEnd, IsCause, MayCall, helping_in};
 
 use crate::flow_lines::{write_done, write_needed, write_refuted, write_spent, write_vertical};
 use crate::found::{device_under, netlist_under};
-use act1_base::{Items, Memory, write_named};
+use act1_base::{Items, Memory};
 use act1_blif::Blif;
 use act1_device::Device;
+use act1_farm::Tally;
 use act1_flow::{FlowStop, Routed, Settings, flow};
 use act1_frame::{Ending, FileText, Stop, Word, with_text};
 use act1_fuses::write_fuses;
-use act1_outside::Files;
+use act1_outside::{Files, Helpers};
 use act1_report::{Report, report_text};
 use act1_words::FlowWords;
 use std::alloc::Global;
@@ -27,6 +29,7 @@ fn settings_of(words: &FlowWords) -> Settings
         k: words.k as u8,
         budget: words.budget,
         seed: words.seed,
+        jobs: words.jobs as u8,
     }
 }
 
@@ -42,10 +45,15 @@ fn file_text(alloc: Global, name: &Word, bytes: Vec<u8>) -> Result<FileText, Mem
 
 // The ending of a netlist that is on the device.
 fn routed_ending(alloc: Global, routed: &Routed, fuses: &Word) -> Result<Ending, Memory>
-    ensures { IfOk result (λ ending. ending ≡ command.routed_ending fuses.now routed.now.fuses routed.now.«modules») }
+    ensures { IfOk result (λ ending. ending ≡ command.routed_ending fuses.now routed.now.fuses routed.now.«modules» routed.now.tally) }
 {
     let mut text = Vec::new(alloc);
-    write_done(&mut text, routed.modules, routed.fuses.sites.len() as u64)?;
+    write_done(
+        &mut text,
+        routed.modules,
+        routed.fuses.sites.len() as u64,
+        routed.tally,
+    )?;
     let bytes = write_fuses(alloc, &routed.fuses)?;
     let file = file_text(alloc, fuses, bytes)?;
     Ok(Ending {
@@ -61,8 +69,9 @@ fn refuted_ending(
     name: &Word,
     report: &Report,
     connections: u16,
+    tally: Tally,
 ) -> Result<Ending, Memory>
-    ensures { IfOk result (λ ending. ending ≡ command.refuted_ending name.now report.now connections) }
+    ensures { IfOk result (λ ending. ending ≡ command.refuted_ending name.now report.now connections tally) }
 {
     let mut text = Vec::new(alloc);
     write_refuted(
@@ -70,6 +79,7 @@ fn refuted_ending(
         report.channel,
         connections,
         report.log.steps.len() as u64,
+        tally,
     )?;
     let bytes = report_text(alloc, report)?;
     let file = file_text(alloc, name, bytes)?;
@@ -102,13 +112,15 @@ fn stopped_ending(alloc: Global, report: &Word, stop: &FlowStop) -> Result<Endin
         FlowStop::Refuted {
             report: made,
             connections,
-        } => refuted_ending(alloc, report, made, *connections),
+            tally,
+        } => refuted_ending(alloc, report, made, *connections, *tally),
         FlowStop::Spent {
             plan,
             channel,
             conflicts,
             tracks,
             connections,
+            tally,
         } => {
             write_spent(
                 alloc,
@@ -118,6 +130,7 @@ fn stopped_ending(alloc: Global, report: &Word, stop: &FlowStop) -> Result<Endin
                 *tracks,
                 *connections,
                 plan,
+                *tally,
             )?;
             Ok(with_text(11, text))
         }
@@ -125,53 +138,47 @@ fn stopped_ending(alloc: Global, report: &Word, stop: &FlowStop) -> Result<Endin
     }
 }
 
-// The ending of helpers, which aren't built yet.
-fn unbuilt_ending(alloc: Global) -> Result<Ending, Memory>
-    ensures { IfOk result (λ ending. ending ≡ command.unbuilt_ending) }
-{
-    let mut text = Vec::new(alloc);
-    write_named(&mut text, b"not built", b"jobs")?;
-    Ok(with_text(18, text))
-}
-
 // The netlist on the device, as the text of an antifuse file, or why it isn't.
-fn flow_ends(alloc: Global, device: &Device, net: &Blif, words: &FlowWords) -> Result<Ending, Stop>
+fn flow_ends<H: Helpers>(
+    alloc: Global,
+    device: &Device,
+    net: &Blif,
+    words: &FlowWords,
+    helpers: &mut H,
+) -> Result<Ending, Stop>
     requires { IsInRanges words.now }
-    ensures ok { IfOk result (FlowEnds words.now device.now net.now) }
-    ensures err { IfErr result (OnStop (FlowEnds words.now device.now net.now)) }
+    ensures ok { IfOk result (FlowEnds words.now (helping_in words.now (H.seen helpers.old) (H.seen helpers.new)) device.now net.now) }
+    ensures err { IfErr result (OnStop (FlowEnds words.now (helping_in words.now (H.seen helpers.old) (H.seen helpers.new)) device.now net.now)) }
+    ensures calls { FlowCalls device.now net.now (command.settings_of words.now) (helping_in words.now (H.seen helpers.old) (H.seen helpers.new)) }
 {
     let settings = settings_of(words);
-    match flow(alloc, device, net, &settings) {
+    match flow(
+        alloc,
+        device,
+        net,
+        &settings,
+        words.program.as_str(),
+        helpers,
+    ) {
         Ok(routed) => Ok(routed_ending(alloc, &routed, &words.fuses)?),
         Err(stop) => Ok(stopped_ending(alloc, &words.report, &stop)?),
     }
 }
 
-// The stages of `flow` without helpers, in their order.
-fn flow_stages<F: Files>(alloc: Global, files: &mut F, words: &FlowWords) -> Result<Ending, Stop>
-    requires { IsInRanges words.now }
-    ensures ok { IfOk result (FlowStages words.now (F.seen files.old) (F.seen files.new)) }
-    ensures err { IfErr result (OnStop (FlowStages words.now (F.seen files.old) (F.seen files.new))) }
-    ensures files { OnlyRead (F.seen files.old) (F.seen files.new) }
-{
-    let device = device_under(alloc, files, &words.device)?;
-    let net = netlist_under(alloc, files, &words.blif)?;
-    flow_ends(alloc, &device, &net, words)
-}
-
-/// The stages of `flow` in their order. Helpers aren't built yet.
-pub fn flow_ending<F: Files>(
+/// The stages of `flow` in their order.
+pub fn flow_ending<F: Files, H: Helpers>(
     alloc: Global,
     files: &mut F,
+    helpers: &mut H,
     words: &FlowWords,
 ) -> Result<Ending, Stop>
     requires { IsInRanges words.now }
-    ensures ok { IfOk result (FlowMayEnd words.now (F.seen files.old) (F.seen files.new)) }
-    ensures err { IfErr result (OnStop (FlowMayEnd words.now (F.seen files.old) (F.seen files.new))) }
+    ensures ok { IfOk result (FlowMayEnd words.now (helping_in words.now (H.seen helpers.old) (H.seen helpers.new)) (F.seen files.old) (F.seen files.new)) }
+    ensures err { IfErr result (OnStop (FlowMayEnd words.now (helping_in words.now (H.seen helpers.old) (H.seen helpers.new)) (F.seen files.old) (F.seen files.new))) }
     ensures files { OnlyRead (F.seen files.old) (F.seen files.new) }
+    ensures helpers { MayCall words.now (F.seen files.old) (H.seen helpers.old) (H.seen helpers.new) }
 {
-    if words.jobs > 0 {
-        return Ok(unbuilt_ending(alloc)?);
-    }
-    flow_stages(alloc, files, words)
+    let device = device_under(alloc, files, &words.device)?;
+    let net = netlist_under(alloc, files, &words.blif)?;
+    flow_ends(alloc, &device, &net, words, helpers)
 }

@@ -3,10 +3,11 @@ ghost use Rattle.act1_circuit.specs.SourceWords.{source_word};
 ghost use Rattle.act1_plan.specs.Texts.{plan_text as plan_bytes};
 ghost use Rattle.act1_top.specs.DemoCommand.{demo_line, demo_refuted_text, demo_spent_text};
 ghost use Rattle.act1_top.specs.ExtractCommand.{extracted_text};
-ghost use Rattle.act1_top.specs.FlowCommand.{counted, done_text, helpers_text, needed_text, refuted_text, spent_line, spent_text, unroutable_line, vertical_text};
+ghost use Rattle.act1_top.specs.FlowCommand.{counted, done_text, helpers_line, helpers_text, needed_text, refuted_text, spent_line, spent_text, unroutable_line, vertical_text};
 
-use act1_base::{Memory, add_number, add_word, write_word};
+use act1_base::{Memory, add_number, add_word};
 use act1_circuit::{Source, add_source};
+use act1_farm::Tally;
 use act1_plan::{Plan, plan_text};
 use act1_report::{Report, report_text};
 use std::alloc::Global;
@@ -26,13 +27,6 @@ fn add_plan(alloc: Global, text: &mut Vec<u8>, plan: &Plan) -> Result<(), Memory
     let bytes = plan_text(alloc, plan)?;
     text.extend_from_slice(&bytes)?;
     Ok(())
-}
-
-// Adds the line of the helpers: none is asked yet.
-fn add_tally(text: &mut Vec<u8>) -> Result<(), Memory>
-    ensures { OnOk result (text.new.items ≡ text.old.items ++ helpers_text) }
-{
-    write_word(text, b"helpers asked 0 taken 0 faults 0")
 }
 
 // Adds two numbers with their names and ends the line.
@@ -104,13 +98,40 @@ fn write_four(
     add_three(text, first, count, second, other, third, last)
 }
 
+// Adds the line of the helpers.
+#[tactic(auto, unfolding(crate::specs::FlowCommand::helpers_line))]
+fn add_helpers(text: &mut Vec<u8>, asked: u64, taken: u64, faults: u64) -> Result<(), Memory>
+    ensures { OnOk result (text.new.items ≡ text.old.items ++ helpers_line asked taken faults) }
+{
+    write_three(
+        text, b"helpers", b"asked", asked, b"taken", taken, b"faults", faults,
+    )
+}
+
+// Adds what came of the helpers.
+fn add_tally(text: &mut Vec<u8>, tally: Tally) -> Result<(), Memory>
+    ensures { OnOk result (text.new.items ≡ text.old.items ++ helpers_text tally) }
+{
+    add_helpers(
+        text,
+        u64::from(tally.asked),
+        u64::from(tally.taken),
+        u64::from(tally.faults),
+    )
+}
+
 /// Adds what is printed of an antifuse file that is done.
-pub fn write_done(text: &mut Vec<u8>, modules: u16, antifuses: u64) -> Result<(), Memory>
-    ensures { OnOk result (text.new.items ≡ text.old.items ++ done_text «modules» antifuses) }
+pub fn write_done(
+    text: &mut Vec<u8>,
+    modules: u16,
+    antifuses: u64,
+    tally: Tally,
+) -> Result<(), Memory>
+    ensures { OnOk result (text.new.items ≡ text.old.items ++ done_text «modules» antifuses tally) }
 {
     text.extend_from_slice(b"done")?;
     add_two(text, b"modules", u64::from(modules), b"fuses", antifuses)?;
-    add_tally(text)
+    add_tally(text, tally)
 }
 
 /// Adds what is printed of a netlist that was extracted.
@@ -174,11 +195,12 @@ pub fn write_refuted(
     channel: u8,
     connections: u16,
     steps: u64,
+    tally: Tally,
 ) -> Result<(), Memory>
-    ensures { OnOk result (text.new.items ≡ text.old.items ++ refuted_text channel connections steps) }
+    ensures { OnOk result (text.new.items ≡ text.old.items ++ refuted_text channel connections steps tally) }
 {
     write_unroutable(text, u64::from(channel), u64::from(connections), steps)?;
-    add_tally(text)
+    add_tally(text, tally)
 }
 
 // Adds the line of a channel whose search spent its budget.
@@ -215,8 +237,9 @@ pub fn write_spent(
     tracks: u8,
     connections: u16,
     plan: &Plan,
+    tally: Tally,
 ) -> Result<(), Memory>
-    ensures { OnOk result (text.new.items ≡ text.old.items ++ spent_text channel conflicts tracks connections plan.now) }
+    ensures { OnOk result (text.new.items ≡ text.old.items ++ spent_text channel conflicts tracks connections plan.now tally) }
 {
     write_spent_line(
         text,
@@ -226,7 +249,7 @@ pub fn write_spent(
         u64::from(connections),
     )?;
     add_plan(alloc, text, plan)?;
-    add_tally(text)
+    add_tally(text, tally)
 }
 
 /// Adds the line of a demo that is done: the numbers of its bits, modules and antifuses.

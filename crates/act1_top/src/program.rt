@@ -4,7 +4,7 @@ ghost use Rattle.act1_frame.specs.Clauses.{RunEnds, HasReadFault, HasWriteFault,
 ghost use Rattle.act1_frame.specs.World.{world_of};
 ghost use Rattle.act1_words.specs.Commands.{command_of};
 ghost use Rattle.act1_words.specs.declared.command.Command.TheVariants.{Unknown};
-ghost use Rattle.act1_top.specs.Run.{IsDone, IsVertical, IsRefuted, IsSpent, IsSure, MayEnd, chosen_of, reads_of, writes_of, writes_at};
+ghost use Rattle.act1_top.specs.Run.{IsDone, IsVertical, IsRefuted, IsSpent, IsSure, HelpersAre, MayEnd, chosen_of, reads_of, writes_of, writes_at};
 
 use crate::decide::decide;
 use crate::laws::texts_are_one;
@@ -14,8 +14,8 @@ use std::alloc::Global;
 
 /// Does what the words ask for, and answers the status. `words` are those after the program's name.
 ///
-/// Each line is printed and each file written after all of its text is made. `helpers` isn't called
-/// yet.
+/// Each line is printed and each file written after all of its text is made. `helpers` are asked by `flow` alone, where the
+/// words have `--jobs` above 0; whatever they answer, no status comes of it that couldn't come without them.
 pub fn run<F: Files, S: Sink, H: Helpers>(
     alloc: Global,
     words: &[String],
@@ -33,11 +33,11 @@ pub fn run<F: Files, S: Sink, H: Helpers>(
     ensures spent { result ≡ 11 → IsSpent (command_of (map string_bytes words.now)) (world_of (F.seen files.old) (S.seen out.old) (H.seen helpers.old)) (world_of (F.seen files.new) (S.seen out.new) (H.seen helpers.new)) }
 
     // What is printed and written is that of an ending that the words and files allow.
-    ensures ends { RunEnds (MayEnd (command_of (map string_bytes words.now))) (world_of (F.seen files.old) (S.seen out.old) (H.seen helpers.old)) result (world_of (F.seen files.new) (S.seen out.new) (H.seen helpers.new)) }
+    ensures ends { RunEnds (MayEnd (command_of (map string_bytes words.now)) (H.seen helpers.old) (H.seen helpers.new)) (world_of (F.seen files.old) (S.seen out.old) (H.seen helpers.old)) result (world_of (F.seen files.new) (S.seen out.new) (H.seen helpers.new)) }
 
     // A cause that stands is answered, and with none the status is 0, or 15 for want of memory.
-    ensures causes { CausesAreAnswered (chosen_of (command_of (map string_bytes words.now))) (MayEnd (command_of (map string_bytes words.now))) (reads_of (command_of (map string_bytes words.now))) (writes_of (command_of (map string_bytes words.now))) (world_of (F.seen files.old) (S.seen out.old) (H.seen helpers.old)) result (world_of (F.seen files.new) (S.seen out.new) (H.seen helpers.new)) }
-    ensures complete { IsComplete (MayEnd (command_of (map string_bytes words.now))) (writes_of (command_of (map string_bytes words.now))) (world_of (F.seen files.old) (S.seen out.old) (H.seen helpers.old)) result (world_of (F.seen files.new) (S.seen out.new) (H.seen helpers.new)) }
+    ensures causes { CausesAreAnswered (chosen_of (command_of (map string_bytes words.now))) (MayEnd (command_of (map string_bytes words.now)) (H.seen helpers.old) (H.seen helpers.new)) (reads_of (command_of (map string_bytes words.now))) (writes_of (command_of (map string_bytes words.now))) (world_of (F.seen files.old) (S.seen out.old) (H.seen helpers.old)) result (world_of (F.seen files.new) (S.seen out.new) (H.seen helpers.new)) }
+    ensures complete { IsComplete (MayEnd (command_of (map string_bytes words.now)) (H.seen helpers.old) (H.seen helpers.new)) (writes_of (command_of (map string_bytes words.now))) (world_of (F.seen files.old) (S.seen out.old) (H.seen helpers.old)) result (world_of (F.seen files.new) (S.seen out.new) (H.seen helpers.new)) }
     // Where both texts are accepted and nothing stands in the way, `flow` ends with 0, 8 to 11 or 15; with 0 or 15 where
     // the device is ample for the netlist.
     ensures sure { IsSure (command_of (map string_bytes words.now)) (world_of (F.seen files.old) (S.seen out.old) (H.seen helpers.old)) result (world_of (F.seen files.new) (S.seen out.new) (H.seen helpers.new)) }
@@ -53,10 +53,10 @@ pub fn run<F: Files, S: Sink, H: Helpers>(
     // What the names hold afterwards, and the helpers.
     ensures kept { KeepsWhatIsNotWritten (writes_at (command_of (map string_bytes words.now))) (world_of (F.seen files.old) (S.seen out.old) (H.seen helpers.old)) result (world_of (F.seen files.new) (S.seen out.new) (H.seen helpers.new)) }
     ensures others { KeepsAllBut (writes_of (command_of (map string_bytes words.now))) (world_of (F.seen files.old) (S.seen out.old) (H.seen helpers.old)) (world_of (F.seen files.new) (S.seen out.new) (H.seen helpers.new)) }
-    ensures helpers { helpers.new ≡ helpers.old }
+    ensures helpers { HelpersAre (command_of (map string_bytes words.now)) (F.seen files.old) (H.seen helpers.old) (H.seen helpers.new) }
 {
     texts_are_one();
-    match decide(alloc, words, files) {
+    match decide(alloc, words, files, helpers) {
         Ok(ending) => finish(alloc, &ending, files, out),
         Err(_) => say_memory(out),
     }

@@ -1,4 +1,5 @@
 use Rattle.std.proofs.Common.{ℕ, ◌≡◌, List, map, sym, subst, Bor}
+use Rattle.act1_engine.specs.Engines.{engine_bits}
 use Rattle.act1_sim.specs.Vectors.{AreVectorsOf, bits_of}
 use Rattle.act1_sim.proofs.SimulationLaws.{simulated, not_settled}
 use Rattle.act1_sim.proofs.simulation.simulate.Goals as goal
@@ -12,10 +13,10 @@ vectors width inputs bytes found read same whole h =
 
 pub returns-clause-ok : goal.returns-clause-ok
 returns-clause-ok c =
-    simulated c.args.device.now c.args.file.now c.args.vectors.now c.args.fill c.in_ok-placed.placed c.in_ok-placed.ensures.ok _ c.in-Ok.bits.items
-    (vectors _ _ c.args.vectors.now c.in_ok-lines.lines.items c.deref.result.now c.len.ensures c.deref.ensures.value c.in_ok-lines.ensures.ok) c.in-Ok.ensures c.run_lines.result c.run_lines.ensures.rests c.run_lines.ensures.text
+    simulated c.args.device.now c.args.file.now c.args.vectors.now c.args.fill c.in_ok-placed.placed c.in_ok-placed.ensures.ok _ (engine_bits c.in-Ok.engine)
+    (vectors _ _ c.args.vectors.now c.in_ok-lines.lines.items c.deref.result.now c.len.ensures c.deref.ensures.value c.in_ok-lines.ensures.ok) c.in-Ok.ensures.begins c.run_lines.result c.run_lines.ensures.rests c.run_lines.ensures.text
 
 pub returns-clause-err : goal.returns-clause-err
 returns-clause-err c =
-    not_settled c.args.device.now c.args.file.now c.args.vectors.now c.args.fill c.in_ok-placed.placed c.in_ok-placed.ensures.ok _ c.in-Ok.bits.items
-    (vectors _ _ c.args.vectors.now c.in_ok-lines.lines.items c.deref.result.now c.len.ensures c.deref.ensures.value c.in_ok-lines.ensures.ok) c.in-Ok.ensures c.run_lines.result c.run_lines.ensures.err
+    not_settled c.args.device.now c.args.file.now c.args.vectors.now c.args.fill c.in_ok-placed.placed c.in_ok-placed.ensures.ok _ (engine_bits c.in-Ok.engine)
+    (vectors _ _ c.args.vectors.now c.in_ok-lines.lines.items c.deref.result.now c.len.ensures c.deref.ensures.value c.in_ok-lines.ensures.ok) c.in-Ok.ensures.begins c.run_lines.result c.run_lines.ensures.err

@@ -1,0 +1,5 @@
+pub mod Engines
+pub mod Marking
+pub mod Rounds
+pub mod Slots
+pub mod Turns

@@ -1,0 +1,17 @@
+pub mod UsableAnswers
+pub mod Tickets
+pub mod Entries
+pub mod Farms
+pub mod Found
+pub mod Courses
+pub mod Gives
+pub mod Completes
+pub mod WholeCourses
+pub mod ChannelVerdicts
+pub mod DecideLoop
+pub mod ChannelLoop
+pub mod Counts
+pub mod Channels
+pub mod Outcomes
+pub mod Stories
+pub mod StoryEvents

@@ -1,0 +1,13 @@
+pub mod Usable
+pub mod UsableSteps
+pub mod Story
+pub mod Jobs
+pub mod Farm
+pub mod Events
+pub mod Course
+pub mod Steps
+pub mod Verdicts
+pub mod Helping
+pub mod Deciding
+pub mod StorySteps
+pub mod Laws
