@@ -19,10 +19,10 @@ use Rattle.act1_channel.proofs.Facts.{choice_from, fact_from, same_fact}
 use Rattle.act1_search.specs.Closure.{IsUsed, Follows, IsInConflict}
 use Rattle.act1_search.specs.Closure.Follows.{is_chosen, is_left}
 use Rattle.act1_search.specs.Search.{IsDecision, Descends, EndsInConflict}
-use Rattle.act1_groute.proofs.Elements.{first_or_later, not_in_none, any_of, some_of, finds, found}
+use Rattle.act1_base.proofs.Elements.{first_or_later, not_in_none, any_of, some_of, finds, found}
 use Rattle.act1_ample.specs.Ample.{is_unbroken, IsWide}
 use Rattle.act1_ample.specs.Laws.{NoConflicts, WideHasAssignment, WideIsAssigned, WideIsCalm}
-use Rattle.act1_groute.proofs.Distinct.{Differ, fewer_than}
+use Rattle.act1_base.proofs.Distinct.{Differ, fewer_than}
 
 -- the statement, or its opposite
 abbrev IsSo : Bool → Type 0 → Type 0

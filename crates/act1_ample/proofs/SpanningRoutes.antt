@@ -11,20 +11,21 @@ use Rattle.act1_circuit.specs.declared.circuit.Source.{Source}
 use Rattle.act1_circuit.specs.declared.circuit.Source.TheVariants.{Zero, One, Clock, Input, Module}
 use Rattle.act1_plan.specs.declared.plan.Plan.{Plan}
 use Rattle.act1_groute.specs.declared.wiring.Wiring.{Wiring}
-use Rattle.act1_plan.specs.Lists.{numbers}
+use Rattle.act1_base.specs.Lists.{numbers}
 use Rattle.act1_groute.specs.Lists.{least_by}
 use Rattle.act1_plan.specs.Legal.{Legal}
 use Rattle.act1_groute.specs.Nets.{nets, source_line, covers, channels}
 use Rattle.act1_groute.specs.declared.net.LongWire.{LongWire}
 use Rattle.act1_groute.specs.declared.net.Take.{Take}
 use Rattle.act1_groute.specs.Routes.{long_line, Demand, wire_of, demands, own, distance, all_longs, is_taken, candidates, home_of, least_candidate, is_served, take_for, and_on, take_all, wirings, routes}
-use Rattle.act1_groute.proofs.Elements.{here, later, not_in_none, in_filter, filtered, any_of, finds, found, number_in, least_of_some}
+use Rattle.act1_base.proofs.Elements.{here, later, not_in_none, in_filter, filtered, any_of, finds, found, number_in}
+use Rattle.act1_groute.proofs.LeastElements.{least_of_some}
 use Rattle.act1_groute.proofs.RouteFacts.{IsNet, Routed, none_routed, is_own, take_of, take_one, demand_is, covers_from, covers_nearest}
 use Rattle.act1_groute.proofs.InRange.{source_in_range}
 use Rattle.act1_ample.specs.Ample.{IsWideFor}
 use Rattle.act1_ample.specs.Laws.{RoutesExist}
 use Rattle.act1_ample.proofs.SpanningWires.{spans, spanning, longs_differ, length_numbers, how_many_span, low_end, high_end}
-use Rattle.act1_groute.proofs.Distinct.{differ_filter, fewer_than}
+use Rattle.act1_base.proofs.Distinct.{differ_filter, fewer_than}
 
 -- nets by number
 abbrev pub net_number : Plan → Source → ℕ

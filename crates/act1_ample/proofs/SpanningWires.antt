@@ -7,12 +7,12 @@ use Rattle.std.proofs.lemmas.List.Sums.{sum_by-cons, sum_by-append, length-filte
 use Rattle.std.proofs.lemmas.Option.{get_or_from_slice_get}
 use Rattle.act1_device.specs.declared.device.Device.{Device}
 use Rattle.act1_device.specs.Sites.{long_at}
-use Rattle.act1_plan.specs.Lists.{numbers}
+use Rattle.act1_base.specs.Lists.{numbers}
 use Rattle.act1_groute.specs.Nets.{lowest, highest}
 use Rattle.act1_groute.specs.declared.net.LongWire.{LongWire}
 use Rattle.act1_groute.specs.Routes.{long_line, all_longs}
-use Rattle.act1_groute.proofs.Distinct.{Differ, differ_numbers, differ_map, differ_flat}
-use Rattle.act1_groute.proofs.Elements.{mapped}
+use Rattle.act1_base.proofs.Distinct.{Differ, differ_numbers, differ_map, differ_flat}
+use Rattle.act1_base.proofs.Elements.{mapped}
 use Rattle.act1_ample.specs.Ample.{spans_all, count_spanning}
 
 -- this one spans all channels

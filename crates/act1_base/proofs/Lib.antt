@@ -1,3 +1,5 @@
+pub mod Distinct
+pub mod Elements
 pub mod FirstFaults
 pub mod LineCuts
 pub mod LinkAdded
@@ -5,8 +7,8 @@ pub mod ListGets
 pub mod NumberWords
 pub mod Paths
 pub mod Pigeonhole
-pub mod Spelling
 pub mod RisingLists
+pub mod Spelling
 pub mod SplitLoops
 pub mod TextGrows
 pub mod TextLaws

@@ -38,7 +38,7 @@ abbrev pub first_feed : List ℕ → Option ℕ
 first_feed bytes = position (λ b. b == 10) bytes
 
 -- what a found place says
-found : (e n : ℕ) (bytes : List ℕ) (test : Bool) → Some n ≡ cond test (Some e) None → n ≡ e
+pub found : (e n : ℕ) (bytes : List ℕ) (test : Bool) → Some n ≡ cond test (Some e) None → n ≡ e
 found e n bytes true h = cc
 found e n bytes false h = cc
 
@@ -47,7 +47,11 @@ pub at_feed : (n : ℕ) (bytes : List ℕ) → Some n ≡ first_feed bytes → l
 at_feed n [] h = cc
 at_feed n (b ∷ bytes) h = rw (found _ n bytes _ h) (first_line b bytes)
 
-not_found : (e m : ℕ) (test : Bool) → nat_lt e m ≡ test → None ≡ cond test (Some e) None → m ≤ e
+pub found_within : (e m n : ℕ) (test : Bool) → nat_lt e m ≡ test → Some n ≡ cond test (Some e) None → e < m
+found_within e m n true is h = grind (arith, nat_tests)
+found_within e m n false is h = cc
+
+pub not_found : (e m : ℕ) (test : Bool) → nat_lt e m ≡ test → None ≡ cond test (Some e) None → m ≤ e
 not_found e m true is h = cc
 not_found e m false is h = grind (arith, nat_tests)
 

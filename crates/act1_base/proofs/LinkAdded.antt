@@ -1,5 +1,5 @@
 -- One link more: what it joins was joined before, or goes through the link.
-use Rattle.std.proofs.Common.{◌≡◌, ◌⊎◌, List, [], ◌∷◌, ◌++◌, refl, sym, ap, subst, inl, inr, arith, Contains}
+use Rattle.std.proofs.Common.{◌≡◌, ◌⊎◌, List, [], ◌∷◌, ◌++◌, sym, ap, subst, inl, inr, arith, Contains}
 use Rattle.std.proofs.lemmas.List.Elements.{Contains-append_left, Contains-push, Contains-push_cases}
 use Rattle.act1_base.specs.Joined.{Linked, Leads, Joined}
 use Rattle.act1_base.proofs.Paths.{joined_here, joined_by, joined_on}

@@ -1,5 +1,5 @@
 -- The text of lines and of words, as it grows element by element.
-use Rattle.std.proofs.Common.{ℕ, ◌≡◌, ◌<◌, ◌+◌, List, [], ◌∷◌, ◌++◌, length, map, codes, take, get_or, append-nil, refl, sym, ap, ◌∙◌, append_assoc}
+use Rattle.std.proofs.Common.{ℕ, ◌≡◌, ◌<◌, ◌+◌, List, [], ◌∷◌, ◌++◌, length, map, take, get_or, append-nil, refl, sym, ap, ◌∙◌, append_assoc}
 use Rattle.std.specs.List.{flat_map, join_with_byte}
 use Rattle.std.proofs.lemmas.List.{flat_map_more, map_more, take_more}
 use Rattle.std.proofs.lemmas.List.Concat.{flat_map-append}

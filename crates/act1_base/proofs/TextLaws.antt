@@ -5,10 +5,10 @@ use Rattle.std.proofs.lemmas.List.{append-nil}
 use Rattle.std.proofs.lemmas.List.Splits.{join_with_byte-slice_split, length-slice_split}
 use Rattle.act1_base.specs.declared.texts.TextFault.{TextFault}
 use Rattle.act1_base.specs.FirstFault.{Runs}
-use Rattle.act1_base.specs.Texts.{LineRules, numbered, at_end, and_then, read_on, read_parts, reading}
+use Rattle.act1_base.specs.Texts.{LineRules, numbered, at_end, and_then, read_parts, reading}
 use Rattle.act1_base.specs.Words.{words_of, text_of_lines}
 use Rattle.act1_base.proofs.TextLines.{IsWithout, joined, lines_again, text_again}
-use Rattle.act1_base.proofs.TextReads.{parts_read}
+use Rattle.act1_base.proofs.TextReads.{parts_read, read_on}
 
 -- the words of each line, put together again
 joined_words : (lines : List (List ℕ)) → map joined (map words_of lines) ≡ lines

@@ -2,6 +2,7 @@ pub mod Capped
 pub mod FirstFault
 pub mod Joined
 pub mod Lines
+pub mod Lists
 pub mod Names
 pub mod Number
 pub mod Rising

@@ -39,12 +39,7 @@ module _ {State Kind : Type 0} where
   and_then (Ok s) next = next s
   and_then (Err fault) next = Err fault
 
-  -- what the lines do one after the other, from the line of this number on, and then what stands behind them
-  abbrev pub read_on : LineRules State Kind → State → ℕ → List (List ℕ) → List ℕ → Result State (TextFault Kind)
-  read_on rules s number [] rest = numbered number (at_end rules s rest)
-  read_on rules s number (line ∷ lines) rest = and_then (numbered number (rules.after s line)) (λ next. read_on rules next (number + 1) lines rest)
-
-  -- the lines of a text as line feeds part them, and what stands behind the last line feed
+  -- what the lines of a text do one after the other, as line feeds part them, from the line of this number on, and then what stands behind the last line feed
   abbrev pub read_parts : LineRules State Kind → State → ℕ → List (List ℕ) → Result State (TextFault Kind)
   read_parts rules s number [] = numbered number (at_end rules s [])
   read_parts rules s number (rest ∷ []) = numbered number (at_end rules s rest)

@@ -1,6 +1,7 @@
 //! What every crate of act1 shares: lists, names, lines and numbers, and the one error of memory.
 #![tactic(auto)]
 
+mod hash_seed;
 mod items;
 mod lines;
 mod memory;
@@ -10,11 +11,12 @@ mod texts;
 mod words;
 mod writing;
 
+pub use hash_seed::HashSeed;
 pub use items::Items;
-pub use lines::Lines;
+pub use lines::{Lines, line_feed};
 pub use memory::Memory;
 pub use name::{Name, copy_of_name};
 pub use number::{NumberFault, read_number, write_number};
-pub use texts::{Format, Stop, TextFault, pieces_of, read_text};
+pub use texts::{Format, Stop, TextFault, read_text};
 pub use words::{capped_number, is_name, is_number, words_of};
 pub use writing::{add_names, add_number, add_word, write_named, write_word};

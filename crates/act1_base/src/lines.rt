@@ -30,8 +30,8 @@ impl<'a> Lines<'a> {
     }
 }
 
-// The place of the first line feed.
-fn line_feed(bytes: &[u8]) -> Option<usize>
+/// The place of the first line feed.
+pub fn line_feed(bytes: &[u8]) -> Option<usize>
     ensures { result ≡ position (λ b. b == 10) bytes.now }
 {
     bytes.iter().position(|b| *b == b'\n')

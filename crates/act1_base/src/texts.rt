@@ -1,11 +1,11 @@
-ghost use Rattle.std.specs.Prelude.{◌≡◌, ◌≤◌, ◌<◌, ◌+◌, ◌^◌, ◌==◌, length, map, IfOk};
-ghost use Rattle.std.specs.List.{slice_split};
+ghost use Rattle.std.specs.Prelude.{◌≡◌, ◌≤◌, length, IfOk};
 ghost use Rattle.act1_base.specs.FirstFault.{IsFormatOf, IsReadAs};
-ghost use Rattle.act1_base.specs.Texts.{Gives, numbered, reading, read_on, at_end};
+ghost use Rattle.act1_base.specs.Texts.{Gives, numbered, reading, at_end};
 ghost use Rattle.act1_base.specs.declared.texts.Stop.TheVariants.{Memory};
 
+use crate::lines::line_feed;
 use crate::memory::Memory;
-use std::alloc::{AllocError, AllocFailed, Global};
+use std::alloc::{AllocError, AllocFailed};
 
 /// Why something stopped: by a fault in what it read, or since no memory was left.
 #[derive(Clone, Copy, Debug, PartialEq, Eq)]
@@ -85,14 +85,6 @@ pub trait Format {
         ensures { EndsBy (rules self.now) state.now result };
 }
 
-/// The pieces of the bytes that line feeds part: the lines, and what stands behind the last line
-/// feed, which may be nothing.
-pub fn pieces_of(alloc: Global, bytes: &[u8]) -> Result<Vec<&[u8]>, AllocError>
-    ensures { IfOk result (λ pieces. map (λ piece. piece.now) pieces.items ≡ slice_split (λ b. b == 10) bytes.now) }
-{
-    bytes.split(|b| *b == b'\n').collect(alloc)
-}
-
 // One line more, with its number at a fault.
 fn after_line<F: Format>(
     format: &F,
@@ -129,20 +121,18 @@ fn at_end<F: Format>(
     }
 }
 
-// The lines in their order, up to the first fault, and what stands behind them.
-fn read_pieces<F: Format>(
-    format: &F,
-    lines: &[&[u8]],
-    rest: &[u8],
-) -> Result<F::State, Stop<TextFault<F::Kind>>>
-    requires { length lines.now + 1 < 2 ^ 32 }
-    ensures { Gives result (read_on (F.rules format.now) (F.rules format.now).start 1 (map (λ line. line.now) lines.now) rest.now) }
+// The lines of a text in their order, up to the first fault, and what stands behind them. No list of them is made.
+fn read_pieces<F: Format>(format: &F, bytes: &[u8]) -> Result<F::State, Stop<TextFault<F::Kind>>>
+    requires { length bytes.now ≤ 4000000000 }
+    ensures { Gives result (reading (F.rules format.now) bytes.now) }
 {
     let mut state = format.start()?;
     let mut number = 1;
-    for line in lines {
-        state = after_line(format, state, number, line)?;
+    let mut rest = bytes;
+    while let Some(end) = line_feed(rest) {
+        state = after_line(format, state, number, &rest[..end])?;
         number += 1;
+        rest = &rest[end + 1..];
     }
     at_end(format, state, number, rest)
 }
@@ -150,20 +140,12 @@ fn read_pieces<F: Format>(
 /// The state that the lines of a text leave, or its first fault by the format's rules. Where these are
 /// the rules of the format's texts (`IsFormatOf`), the fault's line is the first that lacks its line
 /// feed, or with which the lines up to it begin no text of the format, or the line after the last
-/// where the text is cut.
-pub fn read_text<F: Format>(
-    alloc: Global,
-    format: &F,
-    bytes: &[u8],
-) -> Result<F::State, Stop<TextFault<F::Kind>>>
+/// where the text is cut. It takes no memory of its own.
+pub fn read_text<F: Format>(format: &F, bytes: &[u8]) -> Result<F::State, Stop<TextFault<F::Kind>>>
     requires { length bytes.now ≤ 4000000000 }
     ensures reads { Gives result (reading (F.rules format.now) bytes.now) }
     // Where the rules are those of the texts, in the words of the texts.
     ensures texts { IsFormatOf (F.rules format.now) (F.is_text format.now) → IsReadAs (F.is_text format.now) bytes.now result }
 {
-    let pieces = pieces_of(alloc, bytes)?;
-    let Some((rest, lines)) = pieces.split_last() else {
-        return Err(Stop::Memory);
-    };
-    read_pieces(format, lines, rest)
+    read_pieces(format, bytes)
 }

@@ -20,7 +20,8 @@ use Rattle.act1_blifread.specs.Faults.{IsFree, is_among, node_graph, node_reads}
 use Rattle.act1_blifread.specs.Netlist.{signal_at}
 use Rattle.act1_blifread.proofs.FirstPlaces.{first, first_there, position_first}
 use Rattle.act1_blifread.proofs.NodeGraphs.{no_loop}
-use Rattle.act1_blifread.proofs.NumberLists.{among_contained, contained_among, true_equal}
+use Rattle.act1_base.proofs.Elements.{among_contained, contained_among}
+use Rattle.act1_blifread.proofs.NumberLists.{true_equal}
 use Rattle.act1_blifread.proofs.CanonicalNames.{is_in, passes_in}
 use Rattle.act1_blifread.proofs.CanonicalNet.{all_names, count_of, keeps, read_in, low_signal}
 use Rattle.act1_blifread.proofs.CanonicalSaid.{place_in}

@@ -117,24 +117,6 @@ below_at count [] i low h = absurd (omega arith)
 below_at count (n ∷ ns) zero low h = let e = (both_true (nat_lt n count) (list_all (λ m. nat_lt m count) ns) h).0 in grind (arith, nat_tests)
 below_at count (n ∷ ns) (suc i) low h = below_at count ns i (omega arith) (both_true (nat_lt n count) (list_all (λ m. nat_lt m count) ns) h).1
 
--- a number is among others exactly where they contain it
-pub among_contained : (xs : List ℕ) (n : ℕ) → is_among xs n ≡ true → Contains xs n
-among_contained [] n e = absurd (false≢true e)
-among_contained (x ∷ xs) n e = by (x == n) refl (among_contained xs n) e
-  where
-    by : (b : Bool) → (x == n) ≡ b → (is_among xs n ≡ true → Contains xs n) → (b || is_among xs n) ≡ true → Contains (x ∷ xs) n
-    by true is h e = (0, omega arith, true_equal x n is)
-    by false is h e = let c = h e in let low = c.1 in (suc c.0, omega arith, c.2)
-
-pub contained_among : (xs : List ℕ) (n : ℕ) → Contains xs n → is_among xs n ≡ true
-contained_among [] n (k, low, e) = absurd (omega arith)
-contained_among (x ∷ xs) n (zero, low, e) = ap (λ b. b || is_among xs n) (equal_true x n e)
-contained_among (x ∷ xs) n (suc k, low, e) = by (x == n) (contained_among xs n (k, omega arith, e))
-  where
-    by : (b : Bool) → is_among xs n ≡ true → (b || is_among xs n) ≡ true
-    by true e = refl
-    by false e = e
-
 pub any_turned : (n : ℕ) (xs : List ℕ) → list_any (λ m. n == m) xs ≡ is_among xs n
 any_turned n [] = refl
 any_turned n (x ∷ xs) = ap (λ (b : Bool). b || list_any (λ m. n == m) xs) (equal_turned n x) ∙ ap (λ (b : Bool). (x == n) || b) (any_turned n xs)

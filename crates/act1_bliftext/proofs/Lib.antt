@@ -3,6 +3,7 @@ pub mod Blocks
 pub mod Bounds
 pub mod EachText
 pub mod FaultParts
+pub mod LatchForms
 pub mod LatchLemmas
 pub mod LineAdds
 pub mod LineNames

@@ -11,7 +11,7 @@ use crate::read::read_lines;
 use crate::reading::Reading;
 use crate::statements::Statements;
 use crate::step::closed;
-use act1_base::Memory;
+use act1_base::{HashSeed, Memory};
 use std::alloc::Global;
 
 // What a whole text says.
@@ -34,12 +34,12 @@ fn statements_of(alloc: Global, reading: Reading) -> Result<Statements, Memory>
 
 /// What a BLIF text says, line by line, or its first fault of a line: the first joined line that has
 /// one, and of the kinds of fault that this line has the first. Want of memory may come at any time;
-/// its line is 0.
-pub fn read_statements(alloc: Global, bytes: &[u8]) -> Result<Statements, BlifFault>
+/// its line is 0. The table of the names hashes by `seed`.
+pub fn read_statements(alloc: Global, seed: HashSeed, bytes: &[u8]) -> Result<Statements, BlifFault>
     requires { length bytes.now ≤ 4000000000 }
     ensures read { IfOk result (StatementsOf bytes.now) }
     ensures fault { IfErr result (λ fault. (fault.kind ≡ kind.Memory) ⊎ LineBad bytes.now fault) }
 {
-    let reading = read_lines(alloc, bytes)?;
+    let reading = read_lines(alloc, seed, bytes)?;
     Ok(statements_of(alloc, reading)?)
 }

@@ -1,17 +1,39 @@
-ghost use Rattle.std.specs.Prelude.{◌≡◌, [], map, IfOk};
+ghost use Rattle.std.specs.Prelude.{◌≡◌, [], nat_eq, map, IfOk};
+ghost use Rattle.std.specs.Cmp.Lexicographic.{pointwise, nat_list_eq_equiv};
+ghost use Rattle.std.specs.Cmp.Rules.{hashing};
+ghost use Rattle.std.proofs.Common.{rules};
 ghost use Rattle.act1_bliftext.specs.NumberingSteps.{Numbers, NumbersAll, AddsNames};
 
 use crate::fault::BlifKind;
 use crate::forms::has_long;
-use act1_base::{Items, Memory, Name, Stop};
-use indexmap::IndexSet;
+use act1_base::{HashSeed, Items, Memory, Name, Stop};
+use indexmap::{Equivalent, IndexSet};
 use std::alloc::Global;
+use std::hash::Hash;
 use std::marker::Model;
+
+// A word by whose bytes a name is looked up, so that no name is made of a word whose name is there.
+#[derive(Clone, Copy, PartialEq, Eq, Hash)]
+struct Word<'a> {
+    bytes: &'a [u8],
+}
+
+impl<'a> Equivalent<Name> for Word<'a> {
+    ghost equivalent = { λ word name. pointwise nat_eq word.bytes.now name };
+
+    ghost respects_hash = { Prim.search (hashing, rules) };
+
+    ghost respects_eq = { λ word x y. nat_list_eq_equiv.congr word.bytes.now x y };
+
+    fn equivalent(&self, key: &Name) -> bool {
+        self.bytes == key.as_bytes()
+    }
+}
 
 /// The names of a text, numbered in the order of their first use: at most 65,535.
 #[derive(Drop)]
 pub struct Names {
-    set: IndexSet<Name>,
+    set: IndexSet<Name, HashSeed>,
 }
 
 impl Model for Names {
@@ -25,12 +47,12 @@ impl Model for Names {
 }
 
 impl Names {
-    /// No names.
-    pub fn new(alloc: Global) -> Names
+    /// No names, in a table that hashes by `seed`.
+    pub fn new(alloc: Global, seed: HashSeed) -> Names
         ensures { result ≡ [] }
     {
         Names {
-            set: IndexSet::new(alloc),
+            set: IndexSet::with_hasher(alloc, seed),
         }
     }
 
@@ -38,14 +60,13 @@ impl Names {
     fn number(&mut self, alloc: Global, word: &[u8]) -> Result<u16, Stop<BlifKind>>
         ensures { Numbers self.old word.now self.new result }
     {
-        let name = Name::new(alloc, word)?;
-        if let Some(number) = self.set.get_index_of(&name) {
+        if let Some(number) = self.set.get_index_of(Word { bytes: word }) {
             return Ok(number as u16);
         }
         if self.set.len() == 65_535 {
             return Err(Stop::Fault(BlifKind::Limit));
         }
-        match self.set.insert_full(name) {
+        match self.set.insert_full(Name::new(alloc, word)?) {
             Ok((number, _)) => Ok(number as u16),
             Err(_) => Err(Stop::Memory),
         }
@@ -80,8 +101,8 @@ impl Names {
         ensures { IfOk result (λ names. names ≡ self) }
     {
         let mut names = Items::new(alloc);
-        for name in self.set.as_slice() {
-            names.push(name.clone()?)?;
+        for name in self.set {
+            names.push(name)?;
         }
         Ok(names)
     }

@@ -10,7 +10,7 @@ use crate::place::Place;
 use crate::reading::Reading;
 use crate::step::after_line;
 use crate::words::{add_words, before_backslash, without_comment};
-use act1_base::{Items, Lines, Stop};
+use act1_base::{HashSeed, Items, Lines, Stop};
 use smallvec::SmallVec;
 use std::alloc::Global;
 
@@ -104,7 +104,7 @@ fn next_line<'a>(
 }
 
 // The place before the first line.
-fn start<'a>(alloc: Global) -> Place<'a>
+fn start<'a>(alloc: Global, seed: HashSeed) -> Place<'a>
     ensures first { result.first ≡ 1 }
     ensures number { result.number ≡ 1 }
     ensures words { result.words.items ≡ [] }
@@ -114,7 +114,7 @@ fn start<'a>(alloc: Global) -> Place<'a>
     Place {
         reading: Reading {
             model: None,
-            names: Names::new(alloc),
+            names: Names::new(alloc, seed),
             statements: Items::new(alloc),
             open_names: None,
             is_later: false,
@@ -128,11 +128,11 @@ fn start<'a>(alloc: Global) -> Place<'a>
 
 /// What the joined lines of a text say, or the first line that has a fault, and the first kind that
 /// it has.
-pub fn read_lines(alloc: Global, bytes: &[u8]) -> Result<Reading, BlifFault>
+pub fn read_lines(alloc: Global, seed: HashSeed, bytes: &[u8]) -> Result<Reading, BlifFault>
     requires { length bytes.now ≤ 4000000000 }
     ensures { AllGives (text_lines bytes.now) result }
 {
-    let mut place = start(alloc);
+    let mut place = start(alloc, seed);
     for line in Lines::new(bytes) {
         place = next_line(alloc, place, line)?;
     }

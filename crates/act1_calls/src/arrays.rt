@@ -2,6 +2,7 @@ ghost use Rattle.std.specs.Prelude.{IfSome};
 ghost use Rattle.act1_fuses.specs.Rules.{KeepsRules};
 
 use crate::input::bytes_of;
+use act1_base::HashSeed;
 use act1_device::Device;
 use act1_devread::read_device;
 use act1_fuses::{FuseFile, read_fuses, write_fuses};
@@ -30,7 +31,7 @@ fn fuses_in(alloc: Global, device: &Device, bytes: &[u8]) -> Option<FuseFile>
     if bytes.len() > 4_000_000_000 {
         return None;
     }
-    read_fuses(alloc, device, bytes).ok()
+    read_fuses(alloc, HashSeed::new([0; 16]), device, bytes).ok()
 }
 
 /// The antifuse file of a file, on the device.

@@ -1,6 +1,6 @@
 ghost use Rattle.std.specs.Prelude.{◌≡◌, ◌≤◌, length, IfSome};
 
-use act1_base::read_number;
+use act1_base::{HashSeed, read_number};
 use act1_blif::Blif;
 use act1_blifread::read_blif;
 use act1_channel::Problem;
@@ -70,7 +70,7 @@ pub fn netlist_of<R: Files>(rt: &R, alloc: Global, name: &str) -> Option<Blif> {
     if bytes.len() > 4_000_000_000 {
         return None;
     }
-    read_blif(alloc, &bytes).ok()
+    read_blif(alloc, HashSeed::new([0; 16]), &bytes).ok()
 }
 
 /// A number that a word spells.

@@ -27,7 +27,7 @@ use Rattle.act1_cover.proofs.TreeLists.{In, in_at, at_in, in_left, in_right, in_
 use Rattle.act1_cover.proofs.Trees.{diagram_value, chain_value, AreWide}
 
 -- a term stands for one tree
-stands_one : (forest : Forest) (e : Term) (t u : Tree) → Stands forest e t → Stands forest e u → t ≡ u
+pub stands_one : (forest : Forest) (e : Term) (t u : Tree) → Stands forest e t → Stands forest e u → t ≡ u
 stands_one forest e never never h g = refl
 stands_one forest e always always h g = refl
 stands_one forest e (input v) (input w) h g = let s : v ≡ w = var_same (sym h ∙ g) in ap input s

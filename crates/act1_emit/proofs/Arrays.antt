@@ -32,7 +32,7 @@ use Rattle.act1_groute.specs.Nets.{sinks, source_line, out_line}
 use Rattle.act1_groute.specs.declared.net.Take.{Take}
 use Rattle.act1_groute.specs.Routes.{Demand, demands}
 use Rattle.act1_groute.specs.Emitted.{dedicated, IsDedicated, IsOfConnection, IsAt, IsSignal, AreAssigned}
-use Rattle.act1_groute.proofs.Elements.{mapped}
+use Rattle.act1_base.proofs.Elements.{mapped}
 use Rattle.act1_groute.proofs.SinkFacts.{pin_sink, output_sink, sink_is, IsPin, IsOut, pin_is_sink, output_is_sink}
 use Rattle.act1_groute.proofs.RouteFacts.{IsNet, Routed, IsServed, spot_of}
 use Rattle.act1_groute.proofs.WiringFacts.{all_wirings, net_wiring}

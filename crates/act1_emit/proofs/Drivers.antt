@@ -14,7 +14,7 @@ use Rattle.act1_plan.specs.Legal.{Legal}
 use Rattle.act1_plan.specs.Nets.{is_same_source}
 use Rattle.act1_groute.specs.declared.net.Sink.{Sink}
 use Rattle.act1_groute.specs.Nets.{sinks}
-use Rattle.act1_groute.proofs.Elements.{any_of, some_of}
+use Rattle.act1_base.proofs.Elements.{any_of, some_of}
 use Rattle.act1_groute.proofs.SinkFacts.{same_source_is, source_is_itself, pin_sink, output_sink, pin_is_sink, output_is_sink}
 use Rattle.act1_emit.specs.Drivers.{drives_pin, is_driver}
 

@@ -32,7 +32,7 @@ use Rattle.act1_groute.specs.Emitted.{dedicated, IsDedicated, IsOfConnection, Is
 use Rattle.act1_groute.proofs.SinkFacts.{pin_sink, output_sink, sink_is, sink_once, spot_once, IsPin, IsOut}
 use Rattle.act1_groute.proofs.RouteFacts.{IsNet, Routed, spot_of}
 use Rattle.act1_groute.proofs.WiringFacts.{all_wirings, wirings_at, IsNetWiring, wiring_is, IsLineIn, line_is, column_within, segment_up, count_up}
-use Rattle.act1_groute.proofs.Elements.{least_below}
+use Rattle.act1_base.proofs.Elements.{least_below}
 
 -- what holds of one end of each link and then of the other holds of all that is joined
 module _ {V : Type 0} (P : V → Type 0) (links : List (V × V)) (on : (a b : V) → Contains links (a, b) → P a → P b) (back : (a b : V) → Contains links (a, b) → P b → P a) where

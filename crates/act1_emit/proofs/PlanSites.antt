@@ -10,12 +10,12 @@ use Rattle.act1_device.specs.declared.device.Site.{Site}
 use Rattle.act1_device.specs.declared.device.Site.TheVariants.{Along, Cross}
 use Rattle.act1_device.specs.Sites.{segment_at}
 use Rattle.act1_plan.specs.declared.plan.Plan.{Plan}
-use Rattle.act1_plan.specs.Lists.{numbers}
+use Rattle.act1_base.specs.Lists.{numbers}
 use Rattle.act1_groute.specs.declared.wiring.Wiring.{Wiring}
 use Rattle.act1_groute.specs.declared.net.Sink.{Sink}
 use Rattle.act1_groute.specs.Nets.{sinks}
 use Rattle.act1_groute.specs.Emitted.{dedicated, IsDedicated, IsOfConnection, IsSignal}
-use Rattle.act1_groute.proofs.Elements.{here, first_or_later, not_in_none, in_map, mapped, in_flat, flattened, in_numbers, number_in}
+use Rattle.act1_base.proofs.Elements.{here, first_or_later, not_in_none, in_map, mapped, in_flat, flattened, in_numbers, number_in}
 use Rattle.act1_emit.specs.SiteSteps.{on_track, rail_sites, all_rails, line_sites, along_sites, connection_sites, channel_sites, signal_sites, plan_sites}
 
 module _ (dev : Device) where

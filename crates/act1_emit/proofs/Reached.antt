@@ -22,7 +22,7 @@ use Rattle.act1_groute.specs.Nets.{sinks, source_line, covers, is_needed, channe
 use Rattle.act1_groute.specs.declared.net.Take.{Take}
 use Rattle.act1_groute.specs.Routes.{Demand, wire_of, demands, has_connection, wirings, interval}
 use Rattle.act1_groute.specs.Emitted.{dedicated, IsAt, AreAssigned, Emitted}
-use Rattle.act1_groute.proofs.Elements.{in_map, in_numbers}
+use Rattle.act1_base.proofs.Elements.{in_map, in_numbers}
 use Rattle.act1_groute.proofs.RouteFacts.{IsNet, Routed, IsServed, is_demand}
 use Rattle.act1_groute.proofs.InRange.{sink_in_range, source_in_range}
 use Rattle.act1_groute.proofs.WiringFacts.{all_wirings, at_wirings, has_wiring, net_wiring, needed_has, home_has, has_sink, sink_needs, has_source, has_home, has_server, column_within, segment_up}

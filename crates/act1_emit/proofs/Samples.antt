@@ -27,7 +27,7 @@ use Rattle.act1_plan.specs.Legal.{Legal}
 use Rattle.act1_groute.specs.declared.net.Sink.{Sink}
 use Rattle.act1_groute.specs.Routes.{routes}
 use Rattle.act1_groute.specs.Emitted.{dedicated, IsDedicated, IsAt, IsOfConnection, IsSignal, AssignsChannel, AreAssigned}
-use Rattle.act1_groute.proofs.Elements.{here, later, first_or_later, not_in_none}
+use Rattle.act1_base.proofs.Elements.{here, later, first_or_later, not_in_none}
 use Rattle.act1_emit.specs.File.{HasTracks, IsFileOf}
 
 tiny_is_device : is_device (codes "tiny") 1 2 0 0 (([] ∷ []) ∷ []) [] ((record { channel = 0; column = 0 }) ∷ (record { channel = 0; column = 1 }) ∷ []) ≡ true

@@ -4,7 +4,7 @@ use Rattle.std.proofs.lemmas.List.{append_assoc, drop_more}
 use Rattle.act1_device.specs.declared.device.Device.{Device}
 use Rattle.act1_device.specs.declared.device.Site.{Site}
 use Rattle.act1_device.specs.declared.device.Site.TheVariants.{Along}
-use Rattle.act1_plan.specs.Lists.{numbers}
+use Rattle.act1_base.specs.Lists.{numbers}
 use Rattle.act1_groute.specs.declared.wiring.Wiring.{Wiring}
 use Rattle.act1_emit.specs.SiteSteps.{along_sites, connection_sites, channel_sites}
 

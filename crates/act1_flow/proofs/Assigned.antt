@@ -22,7 +22,7 @@ use Rattle.act1_groute.specs.Emitted.{AreAssigned, Emitted}
 use Rattle.act1_groute.specs.Nets.{channels as all_channels}
 use Rattle.act1_groute.specs.declared.net.Take.{Take}
 use Rattle.act1_groute.specs.Routes.{Demand, routes, demands, take_all, and_on, wirings, IsProblemOf}
-use Rattle.act1_plan.specs.Lists.{numbers}
+use Rattle.act1_base.specs.Lists.{numbers}
 use Rattle.act1_groute.specs.declared.wiring.Wiring.{Wiring}
 use Rattle.act1_emit.specs.Drivers.{is_driver}
 use Rattle.act1_emit.specs.File.{HasTracks}

@@ -24,7 +24,7 @@ use Rattle.act1_net.specs.declared.net.NetTerm.{NetTerm}
 use Rattle.act1_net.specs.declared.net.NetTerm.TheVariants as term
 use Rattle.act1_net.specs.Net.{IsNetOf, place_in}
 use Rattle.act1_net.proofs.Chosen.{chosen_from, get_before, get_behind}
-use Rattle.act1_place.proofs.Elements.{any_of, mapped}
+use Rattle.act1_base.proofs.Elements.{any_of, mapped}
 use Rattle.act1_planned.proofs.PortNames.{below, one_number, signals_apart}
 use Rattle.act1_flow.specs.Steps.{HasOwnTerms}
 

@@ -1,12 +1,11 @@
 -- Lines of an antifuse file that are taken can be completed to a text: by those of the header, `device` and `end` that are missing.
-use Rattle.std.proofs.Common.{ℕ, zero, suc, ◌≡◌, ◌≢◌, ◌≤◌, ◌<◌, ◌⊎◌, ◌==◌, Bool, true, false, cond, IsTrue, List, [], ◌∷◌, Option, Some, None, Result, Ok, Err, codes, refl, sym, ap, subst, ◌∙◌, inl, inr, arith}
-use Rattle.std.specs.Prelude.{◌↔◌, IsOk}
+use Rattle.std.proofs.Common.{ℕ, ◌≡◌, ◌≢◌, ◌≤◌, ◌⊎◌, ◌==◌, Bool, true, false, cond, IsTrue, List, [], ◌∷◌, Option, Some, None, Result, Ok, Err, codes, refl, ap, subst, ◌∙◌, inl, inr, arith}
+use Rattle.std.specs.Prelude.{IsOk}
 use Rattle.std.specs.Str.{bytes_eq}
 use Rattle.std.specs.List.{AllByRecursion}
 use Rattle.std.proofs.lemmas.Bool.{cases_eq}
 use Rattle.std.proofs.lemmas.Slice.Eq.{bytes_eq-Decides}
-use Rattle.act1_base.specs.FirstFault.{IsOneLine, IsFirstFaultyLine, IsCompleted, CanBeCompleted, ReadsTheTexts, Runs}
-use Rattle.act1_base.specs.Names.{is_name}
+use Rattle.act1_base.specs.FirstFault.{IsCompleted, CanBeCompleted, ReadsTheTexts, Runs}
 use Rattle.act1_base.specs.Words.{words_of}
 use Rattle.act1_base.specs.declared.texts.TextFault.{TextFault}
 use Rattle.act1_base.proofs.FirstFaults.{is_one_line, fault_is_first, first_is_fault}
@@ -22,13 +21,12 @@ use Rattle.act1_fuses.specs.Forms.{form_of}
 use Rattle.act1_fuses.specs.Laws.{EachTextIsReadOrRefused, FaultsAreFirstLines}
 use Rattle.act1_fuses.specs.Reading.{place_of, may_follow, fault_of, state_with, step_of_words, has_ended, fuse_rules, fuse_reading}
 use Rattle.act1_fuses.specs.Reads.{IsFuseText, IsFirstFault}
-use Rattle.act1_fuses.specs.Text.{fuse_text}
 use Rattle.act1_fuses.proofs.Blanks.{code, named_without}
 use Rattle.act1_fuses.proofs.Bounds.{fits_of}
 use Rattle.act1_fuses.proofs.ReadAgain.{passes, line_runs, follow_8}
 use Rattle.act1_fuses.proofs.ReadBack.{last, text_is_read}
 use Rattle.act1_fuses.proofs.ReadLaw.{device_name, read_is_text}
-use Rattle.act1_fuses.proofs.ReadStates.{header, stepped}
+use Rattle.act1_fuses.proofs.ReadStates.{stepped}
 use Rattle.act1_fuses.proofs.ReadWhole.{fine_device}
 use Rattle.act1_fuses.proofs.Written.{device_form}
 

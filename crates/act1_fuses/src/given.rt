@@ -2,7 +2,7 @@ ghost use Rattle.std.specs.Prelude.{◌≡◌, [], ◌∷◌, ◌++◌, true, no
 ghost use Rattle.act1_fuses.specs.Given.{given_with, is_own_name, no_names, is_among, is_clock};
 
 use crate::form::FuseLine;
-use act1_base::{Memory, Name};
+use act1_base::{HashSeed, Memory, Name};
 use indexmap::IndexSet;
 use std::alloc::Global;
 use std::marker::Model;
@@ -10,7 +10,7 @@ use std::marker::Model;
 /// Names, each once, in the order in which they were given.
 #[derive(Drop)]
 pub struct NameSet {
-    set: IndexSet<Name>,
+    set: IndexSet<Name, HashSeed>,
 }
 
 impl Model for NameSet {
@@ -23,11 +23,11 @@ impl Model for NameSet {
 
 impl NameSet {
     // No names.
-    fn new(alloc: Global) -> NameSet
+    fn new(alloc: Global, seed: HashSeed) -> NameSet
         ensures { result ≡ [] }
     {
         NameSet {
-            set: IndexSet::new(alloc),
+            set: IndexSet::with_hasher(alloc, seed),
         }
     }
 
@@ -75,14 +75,14 @@ pub fn is_clock(clock: &Option<Name>, name: &Name) -> bool
 }
 
 impl GivenNames {
-    /// No names.
-    pub fn new(alloc: Global) -> GivenNames
+    /// No names, in tables that hash by `seed`.
+    pub fn new(alloc: Global, seed: HashSeed) -> GivenNames
         ensures { result ≡ no_names }
     {
         GivenNames {
-            ins: NameSet::new(alloc),
-            outs: NameSet::new(alloc),
-            starts: NameSet::new(alloc),
+            ins: NameSet::new(alloc, seed),
+            outs: NameSet::new(alloc, seed),
+            starts: NameSet::new(alloc, seed),
         }
     }
 

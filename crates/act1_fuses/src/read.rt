@@ -6,7 +6,7 @@ ghost use Rattle.act1_fuses.specs.Reads.{FuseReads, ReadsAgain, IsFuseText};
 use crate::fault::{FuseFault, FuseKind};
 use crate::fuses::FuseFile;
 use crate::reader::FuseReader;
-use act1_base::{Format, Memory, Stop, TextFault, read_text};
+use act1_base::{Format, HashSeed, Memory, Stop, TextFault, read_text};
 use act1_device::{Device, devices_are_small};
 use std::alloc::Global;
 
@@ -14,6 +14,7 @@ use std::alloc::Global;
 #[derive(Drop)]
 struct FuseFormat<'a> {
     alloc: Global,
+    seed: HashSeed,
     device: &'a Device,
 }
 
@@ -27,7 +28,7 @@ impl<'a> Format for FuseFormat<'a> {
     ghost is_text = { λ format. IsFuseText format.device.now };
 
     fn start(&self) -> Result<FuseReader, Memory> {
-        FuseReader::new(self.alloc)
+        FuseReader::new(self.alloc, self.seed)
     }
 
     fn after(&self, reader: FuseReader, line: &[u8]) -> Result<FuseReader, Stop<FuseKind>> {
@@ -67,14 +68,24 @@ impl<'a> Format for FuseFormat<'a> {
 /// means is said at `FuseKind`; numbers of any length are of the form of a line, so one that is too
 /// large is no fault of the line but of the site or pad. The line `end` is the last, and whatever
 /// stands behind it is faulty as `End` alone. The one answer that is tied to no cause is `Memory`.
-pub fn read_fuses(alloc: Global, device: &Device, bytes: &[u8]) -> Result<FuseFile, FuseFault>
+/// The tables of the names hash by `seed`.
+pub fn read_fuses(
+    alloc: Global,
+    seed: HashSeed,
+    device: &Device,
+    bytes: &[u8],
+) -> Result<FuseFile, FuseFault>
     requires { length bytes.now ≤ 4000000000 }
     ensures first { FuseReads device.now bytes.now result }
     ensures again { ReadsAgain device.now bytes.now result }
 {
     devices_are_small();
-    let format = FuseFormat { alloc, device };
-    match read_text(alloc, &format, bytes) {
+    let format = FuseFormat {
+        alloc,
+        seed,
+        device,
+    };
+    match read_text(&format, bytes) {
         Ok(reader) => Ok(reader.into_file()),
         Err(Stop::Fault(TextFault { line, kind })) => Err(FuseFault { line, kind }),
         Err(Stop::Memory) => Err(FuseFault {

@@ -11,7 +11,7 @@ use crate::fuses::FuseFile;
 use crate::given::GivenNames;
 use crate::lines::read_line;
 use crate::step::step;
-use act1_base::{Items, Memory, Name, Stop};
+use act1_base::{HashSeed, Items, Memory, Name, Stop};
 use act1_device::Device;
 use std::alloc::Global;
 use std::marker::Model;
@@ -74,8 +74,8 @@ fn take_line(
 }
 
 impl FuseReader {
-    /// No lines.
-    pub fn new(alloc: Global) -> Result<FuseReader, Memory>
+    /// No lines. The tables of the names hash by `seed`.
+    pub fn new(alloc: Global, seed: HashSeed) -> Result<FuseReader, Memory>
         ensures { IfOk result (λ state. state ≡ first_state) }
     {
         let file = FuseFile {
@@ -91,7 +91,7 @@ impl FuseReader {
             last: Items::new(alloc),
             file,
         };
-        let given = GivenNames::new(alloc);
+        let given = GivenNames::new(alloc, seed);
         Ok(FuseReader { state, given })
     }
 

@@ -4,7 +4,7 @@ use Rattle.std.proofs.lemmas.List.{drop_more}
 use Rattle.act1_device.specs.declared.device.Device.{Device}
 use Rattle.act1_device.specs.declared.device.Line.{Line}
 use Rattle.act1_device.specs.Sites.{column_of}
-use Rattle.act1_plan.specs.Lists.{least_number, greatest_number}
+use Rattle.act1_base.specs.Lists.{least_number, greatest_number}
 
 least_twice : (n : ℕ) (ns : List ℕ) → least_number (n ∷ n ∷ ns) ≡ least_number (n ∷ ns)
 least_twice n [] = omega arith

@@ -8,7 +8,7 @@ use Rattle.act1_device.specs.declared.device.Device.{Device}
 use Rattle.act1_device.specs.Rules.{is_device}
 use Rattle.act1_circuit.specs.declared.circuit.Source.{Source}
 use Rattle.act1_plan.specs.declared.plan.Plan.{Plan}
-use Rattle.act1_plan.specs.Lists.{numbers}
+use Rattle.act1_base.specs.Lists.{numbers}
 use Rattle.act1_plan.proofs.OrderLoops.{numbers_more}
 use Rattle.act1_groute.specs.declared.net.Net.{Net}
 use Rattle.act1_groute.specs.declared.stop.RouteStop.{RouteStop}

@@ -1,8 +1,7 @@
 pub mod ColumnSteps
 pub mod DemandSteps
-pub mod Distinct
-pub mod Elements
 pub mod InRange
+pub mod LeastElements
 pub mod LeastFacts
 pub mod NetSteps
 pub mod OneEmission

@@ -3,7 +3,7 @@ use Rattle.std.proofs.Common.{ℕ, ◌≡◌, ◌+◌, List, [], ◌∷◌, ◌+
 use Rattle.std.proofs.lemmas.List.{map_push}
 use Rattle.act1_circuit.specs.declared.circuit.Source.{Source}
 use Rattle.act1_circuit.specs.declared.circuit.Source.TheVariants.{Input, Module}
-use Rattle.act1_plan.specs.Lists.{numbers}
+use Rattle.act1_base.specs.Lists.{numbers}
 use Rattle.act1_plan.proofs.OrderLoops.{numbers_more}
 use Rattle.act1_groute.specs.declared.net.Net.{Net}
 use Rattle.act1_groute.specs.Nets.{Sink}

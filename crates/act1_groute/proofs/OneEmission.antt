@@ -5,7 +5,7 @@ use Rattle.act1_base.specs.Rising.{Rises, is_before}
 use Rattle.act1_device.specs.declared.device.Site.{Site}
 use Rattle.act1_device.specs.Order.{SiteIsBefore, site_numbers}
 use Rattle.act1_groute.specs.Emitted.{EmittedIsOne}
-use Rattle.act1_groute.proofs.Elements.{here, later, first_or_later, not_in_none}
+use Rattle.act1_base.proofs.Elements.{here, later, first_or_later, not_in_none}
 
 not_below_itself : (n : ℕ) → nat_lt n n ≡ false
 not_below_itself n = from (nat_lt n n) refl

@@ -21,13 +21,13 @@ use Rattle.act1_channel.specs.Ranges as channel
 use Rattle.act1_channel.specs.Ranges.{is_problem, is_track, is_connection}
 use Rattle.act1_plan.specs.declared.plan.Plan.{Plan}
 use Rattle.act1_groute.specs.declared.wiring.Wiring.{Wiring}
-use Rattle.act1_plan.specs.Lists.{numbers, greatest_number}
+use Rattle.act1_base.specs.Lists.{numbers, greatest_number}
 use Rattle.act1_plan.specs.Legal.{Legal}
 use Rattle.act1_groute.specs.Nets.{Sink, sinks, nets, source_line, channels}
 use Rattle.act1_groute.specs.Routes.{Demand, Take, demands, and_on, take_all, wirings, interval, lines_in, has_connection, wiring_of}
 use Rattle.act1_groute.specs.Problems.{ProblemsFit}
-use Rattle.act1_groute.proofs.Elements.{here, later, any_of, mapped, least_below}
-use Rattle.act1_groute.proofs.Distinct.{Differ, fewer_than}
+use Rattle.act1_base.proofs.Elements.{here, later, any_of, mapped, least_below}
+use Rattle.act1_base.proofs.Distinct.{Differ, fewer_than}
 use Rattle.act1_groute.proofs.SinkFacts.{sink_is, IsPin, IsOut, before_itself, rises_later, tail_rises}
 use Rattle.act1_groute.proofs.RouteFacts.{IsNet, Routed, all_served, spot_of}
 use Rattle.act1_groute.proofs.WiringFacts.{all_wirings, wirings_at, IsNetWiring, wiring_is, IsLineIn, line_is}

@@ -7,7 +7,7 @@ use Rattle.act1_device.specs.declared.device.Device.{Device}
 use Rattle.act1_device.specs.Sites.{tracks_of}
 use Rattle.act1_channel.specs.declared.problem.Connection.{Connection}
 use Rattle.act1_channel.specs.Ranges.{is_problem}
-use Rattle.act1_plan.specs.Lists.{numbers}
+use Rattle.act1_base.specs.Lists.{numbers}
 use Rattle.act1_groute.specs.declared.wiring.Wiring.{Wiring}
 use Rattle.act1_groute.specs.Nets.{channels}
 use Rattle.act1_groute.specs.Problems.{AreRoutesOf, ProblemsFit}

@@ -13,10 +13,11 @@ use Rattle.act1_circuit.specs.declared.circuit.Source.TheVariants.{Zero, One, Cl
 use Rattle.act1_circuit.specs.declared.circuit.Spot.{Spot}
 use Rattle.act1_plan.specs.declared.plan.Plan.{Plan}
 use Rattle.act1_plan.specs.Legal.{Legal}
-use Rattle.act1_plan.specs.Lists.{numbers}
+use Rattle.act1_base.specs.Lists.{numbers}
 use Rattle.act1_groute.specs.Nets.{is_same_source, nets, source_line, out_line, lowest, highest, covers, is_needed, channels}
 use Rattle.act1_groute.specs.Routes.{LongWire, long_line, Demand, Take, wire_of, demands, own, nearest, distance, all_longs, is_taken, candidates, home_of, least_candidate, is_served, with_candidate, take_for, and_on, take_all}
-use Rattle.act1_groute.proofs.Elements.{in_filter, filtered, any_of, some_of, in_map, mapped, in_flat, flattened, in_numbers, number_in, first_or_later, here, later, not_in_none, least_in}
+use Rattle.act1_base.proofs.Elements.{in_filter, filtered, any_of, some_of, in_map, mapped, in_flat, flattened, in_numbers, number_in, first_or_later, here, later, not_in_none}
+use Rattle.act1_groute.proofs.LeastElements.{least_in}
 use Rattle.act1_groute.proofs.SinkFacts.{same_source_is, source_is_itself}
 
 -- the line covers what lies between its ends

@@ -16,7 +16,7 @@ use Rattle.act1_circuit.specs.Spots.{SpotIsBefore}
 use Rattle.act1_plan.specs.declared.plan.Plan.{Plan}
 use Rattle.act1_plan.specs.Legal.{Legal}
 use Rattle.act1_groute.specs.Nets.{is_same_source, Sink, pin_sinks, module_sinks, output_sinks, sinks}
-use Rattle.act1_groute.proofs.Elements.{here, later, first_or_later, not_in_none}
+use Rattle.act1_base.proofs.Elements.{here, later, first_or_later, not_in_none}
 
 -- the test of sources
 pub same_source_is : (a b : Source) → is_same_source a b ≡ true → a ≡ b

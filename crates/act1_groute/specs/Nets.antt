@@ -10,7 +10,7 @@ use Rattle.act1_circuit.specs.declared.circuit.Source.{Source}
 use Rattle.act1_circuit.specs.declared.circuit.Source.TheVariants.{Input, Module}
 use Rattle.act1_circuit.specs.declared.circuit.Spot.{Spot}
 use Rattle.act1_plan.specs.declared.plan.Plan.{Plan}
-use Rattle.act1_plan.specs.Lists.{numbers}
+use Rattle.act1_base.specs.Lists.{numbers}
 pub use Rattle.act1_plan.specs.Nets.{is_same_source}
 pub use Rattle.act1_groute.specs.declared.net.Sink.{Sink}
 

@@ -5,7 +5,7 @@ use Rattle.act1_device.specs.declared.device.Device.{Device}
 use Rattle.act1_device.specs.declared.device.Line.{Line}
 use Rattle.act1_circuit.specs.declared.circuit.Source.{Source}
 use Rattle.act1_plan.specs.declared.plan.Plan.{Plan}
-use Rattle.act1_plan.specs.Lists.{numbers}
+use Rattle.act1_base.specs.Lists.{numbers}
 use Rattle.act1_groute.specs.declared.net.Net.{Net}
 use Rattle.act1_groute.specs.declared.stop.RouteStop.{RouteStop}
 use Rattle.act1_groute.specs.declared.stop.RouteStop.TheVariants as stop

@@ -10,7 +10,7 @@ use Rattle.act1_channel.specs.declared.problem.Connection.{Connection}
 use Rattle.act1_channel.specs.declared.problem.Problem.{Problem}
 use Rattle.act1_plan.specs.declared.plan.Plan.{Plan}
 use Rattle.act1_groute.specs.declared.wiring.Wiring.{Wiring}
-use Rattle.act1_plan.specs.Lists.{numbers, least_number, greatest_number}
+use Rattle.act1_base.specs.Lists.{numbers, least_number, greatest_number}
 use Rattle.act1_groute.specs.Lists.{least_by}
 pub use Rattle.act1_groute.specs.declared.net.LongWire.{LongWire}
 pub use Rattle.act1_groute.specs.declared.net.Take.{Take}

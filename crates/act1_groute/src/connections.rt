@@ -1,7 +1,7 @@
 ghost use Rattle.std.specs.Prelude.{◌≡◌, ◌++◌, find, map, filter, length, IfOk, OnOk};
 ghost use Rattle.std.specs.List.{list_any};
 ghost use Rattle.act1_device.specs.Sites.{column_of};
-ghost use Rattle.act1_plan.specs.Lists.{greatest_number, least_number};
+ghost use Rattle.act1_base.specs.Lists.{greatest_number, least_number};
 ghost use Rattle.act1_groute.specs.declared.net.Sink.{Sink as ASink};
 ghost use Rattle.act1_groute.specs.Nets.{covers};
 ghost use Rattle.act1_groute.specs.Routes.{long_line, wire_of, wiring_of};

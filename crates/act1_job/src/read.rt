@@ -76,7 +76,7 @@ pub fn read_job(alloc: Global, bytes: &[u8]) -> Result<Job, JobFault>
     ensures again { ReadsAgain bytes.now result }
 {
     let format = JobFormat { alloc };
-    match read_text(alloc, &format, bytes) {
+    match read_text(&format, bytes) {
         Ok(state) => match state {
             JobState::End { draft } => Ok(job_of(draft)),
             _ => unreachable!(),

@@ -69,7 +69,7 @@ pub fn read_answer(alloc: Global, bytes: &[u8]) -> Result<Answer, LogFault>
     ensures again { ReadsAnswerAgain bytes.now result }
 {
     let format = AnswerFormat { alloc };
-    match read_text(alloc, &format, bytes) {
+    match read_text(&format, bytes) {
         Ok(state) => match state {
             AnswerState::End(draft) => Ok(answer_of(draft)),
             _ => unreachable!(),

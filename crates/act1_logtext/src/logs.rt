@@ -97,7 +97,7 @@ pub fn read_log(alloc: Global, bytes: &[u8]) -> Result<Log, LogFault>
     ensures again { ReadsLogAgain bytes.now result }
 {
     let format = LogFormat { alloc };
-    match read_text(alloc, &format, bytes) {
+    match read_text(&format, bytes) {
         Ok(steps) => Ok(log_of(steps)),
         Err(Stop::Fault(TextFault { line, kind: _ })) => Err(LogFault::Line(line)),
         Err(Stop::Memory) => Err(LogFault::Memory),

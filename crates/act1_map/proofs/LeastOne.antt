@@ -14,43 +14,10 @@ use Rattle.act1_cover.specs.Denotes.{IsForestOfCover, chain_of, diagram_of}
 use Rattle.act1_cover.specs.Forests.{Tree, never, always, input, fork, forks_in, first_ones, Stands, IsForestOf}
 use Rattle.act1_cover.specs.Least.{IsLeastTiling}
 use Rattle.act1_cover.specs.Tilings.{total}
+use Rattle.act1_cover.proofs.Denoting.{stands_one}
 use Rattle.act1_cover.proofs.TreeLists.{one_place, ones_differ}
 use Rattle.act1_map.specs.Least.{IsLeastOfNode, LeastIsOne}
 use Rattle.act1_map.proofs.Gets.{some_within}
-
--- a term stands for one tree
-stands_one : (forest : Forest) (e : Term) (t u : Tree) → Stands forest e t → Stands forest e u → t ≡ u
-stands_one forest e never never h g = refl
-stands_one forest e always always h g = refl
-stands_one forest e (input v) (input w) h g = let s : v ≡ w = var_same (sym h ∙ g) in ap input s
-  where
-    var_same : term.Var v ≡ term.Var w → v ≡ w
-    var_same e = cc
-stands_one forest e (fork v a b) (fork w c d) (k, f, e1, at, var, low, high) (j, g, e2, there, other, lower, higher) =
-    let s : k ≡ j = number (sym e1 ∙ e2) in
-    let same : f ≡ g = some (sym at ∙ ap (slice_get forest.forks) s ∙ there) in
-    let vs : v ≡ w = sym var ∙ ap (λ (h : Fork). h.var) same ∙ other in
-    let as2 = stands_one forest g.low a c (subst (λ (h : Fork). Stands forest h.low a) same low) lower in
-    let bs = stands_one forest g.high b d (subst (λ (h : Fork). Stands forest h.high b) same high) higher in
-    ap (λ (n : ℕ). fork n a b) vs ∙ ap (λ (t : Tree). fork w t b) as2 ∙ ap (λ (t : Tree). fork w c t) bs
-  where
-    number : term.Fork k ≡ term.Fork j → k ≡ j
-    number e = cc
-
-    some : Some f ≡ Some g → f ≡ g
-    some e = cc
-stands_one forest e never always h g = cc
-stands_one forest e never (input w) h g = cc
-stands_one forest e never (fork w c d) h (j, f, e2, there, other, lower, higher) = cc
-stands_one forest e always never h g = cc
-stands_one forest e always (input w) h g = cc
-stands_one forest e always (fork w c d) h (j, f, e2, there, other, lower, higher) = cc
-stands_one forest e (input v) never h g = cc
-stands_one forest e (input v) always h g = cc
-stands_one forest e (input v) (fork w c d) h (j, f, e2, there, other, lower, higher) = cc
-stands_one forest e (fork v a b) never (k, f, e1, at, var, low, high) g = cc
-stands_one forest e (fork v a b) always (k, f, e1, at, var, low, high) g = cc
-stands_one forest e (fork v a b) (input w) (k, f, e1, at, var, low, high) g = cc
 
 fork_number : (k j : ℕ) → term.Fork k ≡ term.Fork j → k ≡ j
 fork_number k j e = cc

@@ -3,39 +3,16 @@ use Rattle.std.proofs.Common.{ℕ, suc, zero, ◌≡◌, ◌<◌, ◌≤◌, ◌
 use Rattle.std.specs.Prelude.{Contains, Some, slice_get, slice_index_or}
 use Rattle.std.proofs.lemmas.List.{get_or_past}
 use Rattle.std.proofs.lemmas.Bool.{cases_eq, cases_lt, false≢true}
+use Rattle.act1_base.proofs.Elements.{among_contained, contained_among}
 use Rattle.act1_base.proofs.ListGets.{place_of}
 use Rattle.act1_order.specs.Laws.{LevelsWithoutRing, OrderWithoutRing, RingOrNone}
 use Rattle.act1_order.specs.Order.{AreReads, IsOrder, LeadsTo, OnRing, Reads, StandsBefore}
 use Rattle.std.specs.List.{list_any}
 use Rattle.std.proofs.lemmas.Bool.Decides.{nat_tests}
 
-equal_true : (m n : ℕ) → m ≡ n → (m == n) ≡ true
-equal_true m n e = grind (arith, nat_tests)
-
-true_equal : (m n : ℕ) → (m == n) ≡ true → m ≡ n
-true_equal m n e = grind (arith, nat_tests)
-
 -- the number is one of these
 abbrev pub is_among : List ℕ → ℕ → Bool
 is_among ns n = list_any (λ m. m == n) ns
-
--- a number is among others exactly where they contain it
-pub among_contained : (xs : List ℕ) (n : ℕ) → is_among xs n ≡ true → Contains xs n
-among_contained [] n e = absurd (false≢true e)
-among_contained (x ∷ xs) n e = by (x == n) refl (among_contained xs n) e
-  where
-    by : (b : Bool) → (x == n) ≡ b → (is_among xs n ≡ true → Contains xs n) → (b || is_among xs n) ≡ true → Contains (x ∷ xs) n
-    by true is h e = (0, omega arith, true_equal x n is)
-    by false is h e = let c = h e in let low = c.1 in (suc c.0, omega arith, c.2)
-
-pub contained_among : (xs : List ℕ) (n : ℕ) → Contains xs n → is_among xs n ≡ true
-contained_among [] n (k, low, e) = absurd (omega arith)
-contained_among (x ∷ xs) n (zero, low, e) = ap (λ b. b || is_among xs n) (equal_true x n e)
-contained_among (x ∷ xs) n (suc k, low, e) = by (x == n) (contained_among xs n (k, omega arith, e))
-  where
-    by : (b : Bool) → is_among xs n ≡ true → (b || is_among xs n) ≡ true
-    by true e = refl
-    by false e = e
 
 -- one path after another
 join : (reads : List (List ℕ)) (v u w : ℕ) (front back : List ℕ) → LeadsTo reads v front u → LeadsTo reads u back w → LeadsTo reads v (front ++ u ∷ back) w

@@ -20,7 +20,7 @@ use Rattle.act1_place.specs.Kept.{spot_of, places, net_sum, kept_total, joins, t
 use Rattle.act1_place.specs.Moves.{columns_with, heights_with}
 use Rattle.act1_place.specs.Passes.{is_same_spot, moved, exchange}
 use Rattle.act1_place.specs.Perimeter.{place_of, spread, half_perimeter}
-use Rattle.act1_place.proofs.Elements.{here, later, filtered, any_of, some_of, in_map, mapped, in_filter}
+use Rattle.act1_base.proofs.Elements.{here, later, filtered, any_of, some_of, in_map, mapped, in_filter}
 use Rattle.act1_place.proofs.KeptSums.{AmongEachOther, perimeter_among, sum_agree, moves, place_once, untouched}
 use Rattle.act1_place.proofs.LocalSums.{local, same_each, kept_sum}
 use Rattle.act1_place.proofs.MoveSums.{net_set, spot_is}

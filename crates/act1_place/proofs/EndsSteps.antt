@@ -12,7 +12,7 @@ use Rattle.act1_place.specs.declared.ends.Change.{Change}
 use Rattle.act1_place.specs.declared.net.Joins.{Joins}
 use Rattle.act1_place.specs.Ends.{AreEnds, AreAllEnds, AreRenewed, IsChange, has, without, ends_at, half_with}
 use Rattle.act1_place.specs.Kept.{net_at}
-use Rattle.act1_place.proofs.Elements.{first_or_later, not_in_none}
+use Rattle.act1_base.proofs.Elements.{first_or_later, not_in_none}
 use Rattle.act1_place.proofs.SiteFacts.{get_set, get_unset}
 
 -- the nets so far

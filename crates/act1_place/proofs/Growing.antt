@@ -7,7 +7,7 @@ use Rattle.act1_circuit.specs.declared.circuit.Circuit.{Circuit}
 use Rattle.act1_circuit.specs.declared.circuit.Source.{Source}
 use Rattle.act1_circuit.specs.declared.circuit.Source.TheVariants.{Input, Module}
 use Rattle.act1_circuit.specs.declared.circuit.Spot.{Spot}
-use Rattle.act1_plan.specs.Lists.{numbers}
+use Rattle.act1_base.specs.Lists.{numbers}
 use Rattle.act1_plan.proofs.OrderLoops.{numbers_more}
 use Rattle.act1_place.specs.declared.net.Joins.{Joins}
 use Rattle.act1_place.specs.Kept.{joins_of}

@@ -1,6 +1,4 @@
 pub mod ChangeSums
-pub mod Distinct
-pub mod Elements
 pub mod EndsSteps
 pub mod GainFacts
 pub mod GainSteps

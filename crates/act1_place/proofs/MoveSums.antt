@@ -13,7 +13,7 @@ use Rattle.act1_place.specs.declared.net.Joins.{Joins}
 use Rattle.act1_place.specs.Kept.{spot_of, places, net_sum, kept_total, joins, Occupies}
 use Rattle.act1_place.specs.Moves.{columns_with, heights_with, sums_with, MoveIsBySums, MovesAreBySums, ExchangeIsBySums, SumsStay}
 use Rattle.act1_place.specs.Perimeter.{place_of, spread}
-use Rattle.act1_place.proofs.Elements.{filtered}
+use Rattle.act1_base.proofs.Elements.{filtered}
 use Rattle.act1_place.proofs.KeptSums.{sum_agree, move_is_local_law, moves}
 use Rattle.act1_place.proofs.PassLaws.{exchange_back}
 

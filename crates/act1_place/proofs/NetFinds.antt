@@ -11,7 +11,7 @@ use Rattle.act1_circuit.specs.declared.circuit.Output.{Output}
 use Rattle.act1_circuit.specs.declared.circuit.Source.{Source}
 use Rattle.act1_circuit.specs.declared.circuit.Source.TheVariants.{Input, Module}
 use Rattle.act1_circuit.specs.Range.{InRange}
-use Rattle.act1_plan.specs.Lists.{numbers}
+use Rattle.act1_base.specs.Lists.{numbers}
 use Rattle.act1_plan.specs.Nets.{is_same_source}
 use Rattle.act1_base.proofs.ListGets.{some_is}
 use Rattle.act1_place.specs.Gains.{AreNets, AreNumbers, AreTouching}
@@ -20,7 +20,7 @@ use Rattle.act1_place.specs.NetSteps.{drives, driven_pads}
 use Rattle.act1_place.specs.Perimeter.{End, output_ends, pad_place, nets_of}
 use Rattle.act1_place.specs.declared.net.Joins.{Joins}
 use Rattle.act1_place.specs.declared.net.Place.{Place}
-use Rattle.act1_place.proofs.Elements.{number_in, here as first_one}
+use Rattle.act1_base.proofs.Elements.{number_in, here as first_one}
 
 -- one module more
 

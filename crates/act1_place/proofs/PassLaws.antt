@@ -8,8 +8,8 @@ use Rattle.act1_base.proofs.ListGets.{some_is, contains_at, place_of}
 use Rattle.act1_device.specs.declared.device.Device.{Device}
 use Rattle.act1_circuit.specs.declared.circuit.Circuit.{Circuit}
 use Rattle.act1_circuit.specs.declared.circuit.Spot.{Spot}
-use Rattle.act1_plan.specs.Lists.{numbers}
-use Rattle.act1_place.proofs.Elements.{here, later, first_or_later, not_in_none, in_map, in_flat, in_numbers, flattened, mapped, number_in}
+use Rattle.act1_base.specs.Lists.{numbers}
+use Rattle.act1_base.proofs.Elements.{here, later, first_or_later, not_in_none, in_map, in_flat, in_numbers, flattened, mapped, number_in}
 use Rattle.act1_place.specs.Perimeter.{total}
 use Rattle.act1_place.specs.Passes.{sites, is_same_spot, moved, exchange, IsStable, pairs, step, pass, passes, Leaves}
 use Rattle.act1_plan.specs.Order.{AreSites}

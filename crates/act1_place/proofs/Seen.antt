@@ -4,7 +4,7 @@ use Rattle.std.proofs.lemmas.List.{take_more, take_all, map_push}
 use Rattle.std.proofs.lemmas.Bool.{eqb-true}
 use Rattle.std.specs.List.{list_any}
 use Rattle.act1_circuit.specs.declared.circuit.Spot.{Spot}
-use Rattle.act1_plan.specs.Lists.{least_number, greatest_number}
+use Rattle.act1_base.specs.Lists.{least_number, greatest_number}
 use Rattle.act1_place.specs.declared.ends.Reach.{Reach}
 use Rattle.act1_place.specs.declared.ends.Ends.{Ends}
 use Rattle.act1_place.specs.declared.net.Joins.{Joins}

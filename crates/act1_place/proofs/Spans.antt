@@ -1,8 +1,8 @@
 -- The least and the greatest of the places that a loop has seen.
 use Rattle.std.proofs.Common.{ℕ, ◌≡◌, ◌+◌, ◌-◌, ◌<◌, ◌≤◌, min, max, List, [], ◌∷◌, ◌++◌, length, map, take, get_or, refl, sym, ap, ◌∙◌, arith}
 use Rattle.std.proofs.lemmas.List.{length-map, length-append, take_more, take_all, map_push, length-take}
-use Rattle.act1_plan.specs.Lists.{least_number, greatest_number}
-use Rattle.act1_place.proofs.Elements.{least_below}
+use Rattle.act1_base.specs.Lists.{least_number, greatest_number}
+use Rattle.act1_base.proofs.Elements.{least_below}
 use Rattle.act1_place.specs.declared.net.Place.{Place}
 use Rattle.act1_place.specs.Perimeter.{half_perimeter}
 

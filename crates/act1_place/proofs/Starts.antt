@@ -8,9 +8,9 @@ use Rattle.rand_pcg.specs.Lcg.{Lcg}
 use Rattle.rand_pcg.specs.Pcg.{pcg32}
 use Rattle.act1_device.specs.declared.device.Device.{Device}
 use Rattle.act1_circuit.specs.declared.circuit.Spot.{Spot}
-use Rattle.act1_plan.specs.Lists.{numbers}
-use Rattle.act1_place.proofs.Elements.{mapped}
-use Rattle.act1_place.proofs.Distinct.{Differ, differ_numbers, differ_map, differ_flat}
+use Rattle.act1_base.specs.Lists.{numbers}
+use Rattle.act1_base.proofs.Elements.{mapped}
+use Rattle.act1_base.proofs.Distinct.{Differ, differ_numbers, differ_map, differ_flat}
 use Rattle.act1_place.specs.Passes.{sites, sites_of}
 use Rattle.act1_place.specs.Start.{generator, shuffled, seeded_start}
 use Rattle.act1_place.specs.Laws.{StartsAreSites, PlacementsSettle, PlacementsAreOne}

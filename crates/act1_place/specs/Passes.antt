@@ -3,7 +3,7 @@ use Rattle.std.specs.Prelude.{ℕ, zero, suc, ◌≡◌, ◌<◌, ◌≤◌, ◌
 use Rattle.act1_device.specs.declared.device.Device.{Device}
 use Rattle.act1_circuit.specs.declared.circuit.Circuit.{Circuit}
 use Rattle.act1_circuit.specs.declared.circuit.Spot.{Spot}
-use Rattle.act1_plan.specs.Lists.{numbers}
+use Rattle.act1_base.specs.Lists.{numbers}
 use Rattle.act1_place.specs.Perimeter.{total}
 
 -- the sites of a row of so many columns

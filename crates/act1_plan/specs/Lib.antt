@@ -1,7 +1,6 @@
 pub mod Legal
 pub mod LegalTest
 pub mod Lines
-pub mod Lists
 pub mod Nets
 pub mod Order
 pub mod OrderSteps

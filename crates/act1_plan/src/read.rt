@@ -59,7 +59,7 @@ pub fn read_plan(alloc: Global, bytes: &[u8]) -> Result<Plan, PlanFault>
     ensures again { ReadsAgain bytes.now result }
 {
     let format = PlanFormat { alloc };
-    match read_text(alloc, &format, bytes) {
+    match read_text(&format, bytes) {
         Ok(state) => match state {
             PlanState::Body { plan } => Ok(plan),
             _ => unreachable!(),

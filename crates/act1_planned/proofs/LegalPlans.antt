@@ -15,7 +15,7 @@ use Rattle.act1_circuit.specs.declared.circuit.Start.{Start}
 use Rattle.act1_plan.specs.declared.plan.Plan.{Plan}
 use Rattle.act1_plan.specs.Legal.{HasNames, IsOnDevice, output_names, start_names}
 use Rattle.act1_plan.specs.Order.{named, site_number}
-use Rattle.act1_place.proofs.Elements.{in_map, mapped}
+use Rattle.act1_base.proofs.Elements.{in_map, mapped}
 use Rattle.act1_planned.specs.Laws.{PlansAreLegal}
 use Rattle.act1_planned.specs.Placed.{IsPlacedAt, MayBePlanned}
 use Rattle.act1_planned.proofs.Numbered.{IsNumbered, all_outputs, all_starts, in_range, numbered, output_names_kept, outputs_count, pair_starts, rising, start_back}

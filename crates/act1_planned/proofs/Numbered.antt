@@ -16,11 +16,11 @@ use Rattle.act1_circuit.specs.declared.circuit.Source.TheVariants.{Zero, One, Cl
 use Rattle.act1_circuit.specs.declared.circuit.Spot.{Spot}
 use Rattle.act1_circuit.specs.declared.circuit.Start.{Start}
 use Rattle.act1_circuit.specs.Range.{HasSource, InRange}
-use Rattle.act1_plan.specs.Lists.{numbers}
+use Rattle.act1_base.specs.Lists.{numbers}
 use Rattle.act1_plan.specs.Order.{rank, site_number, named, renumbered_output, renumbered_start, starts_from}
 use Rattle.act1_plan.specs.Plans.{StartIsBefore}
 use Rattle.act1_plan.proofs.RankFacts.{has_rank, one_place, ranks_are}
-use Rattle.act1_place.proofs.Elements.{filtered, flattened, in_filter, in_flat, in_map, in_numbers, mapped}
+use Rattle.act1_base.proofs.Elements.{filtered, flattened, in_filter, in_flat, in_map, in_numbers, mapped}
 use Rattle.act1_planned.specs.Placed.{IsPlacedAt}
 use Rattle.act1_planned.proofs.Pairs.{all_of, pairs_flat, pairs_map, pairs_rise, pairs_two}
 

@@ -11,7 +11,7 @@ use Rattle.act1_circuit.specs.declared.circuit.Source.TheVariants.{Zero, One, Cl
 use Rattle.act1_circuit.specs.declared.circuit.Start.{Start}
 use Rattle.act1_circuit.specs.Range.{InRange}
 use Rattle.act1_meaning.specs.ArrayNames.{has_name, is_own_signal, IsClash}
-use Rattle.act1_place.proofs.Elements.{any_of, in_map, mapped, some_of}
+use Rattle.act1_base.proofs.Elements.{any_of, in_map, mapped, some_of}
 use Rattle.act1_plan.specs.Order.{named, renumbered_output, renumbered_start, site_number}
 use Rattle.act1_planned.specs.Laws.{OrderKeepsClear}
 use Rattle.act1_planned.proofs.Numbered.{IsNumbered, numbered, start_back, start_on}

@@ -18,7 +18,7 @@ use Rattle.act1_circuit.proofs.OutsideGraph.{reads_within, graph_long}
 use Rattle.act1_circuit.proofs.PairFacts.{source_within, takes_has}
 use Rattle.act1_order.specs.Order.{LeadsTo, OnRing, Reads}
 use Rattle.act1_plan.specs.Order.{named, renumbered_output, renumbered_start, site_number}
-use Rattle.act1_place.proofs.Elements.{in_map, mapped}
+use Rattle.act1_base.proofs.Elements.{in_map, mapped}
 use Rattle.act1_planned.specs.Laws.{OrderKeepsForm}
 use Rattle.act1_planned.proofs.Numbered.{IsNumbered, all_outputs, fits, numbered, start_back, start_on}
 use Rattle.act1_planned.proofs.Pairs.{all_of}

@@ -13,14 +13,14 @@ use Rattle.act1_circuit.specs.declared.circuit.Source.{Source}
 use Rattle.act1_circuit.specs.declared.circuit.Source.TheVariants.{Zero, One, Clock, Input, Module}
 use Rattle.act1_circuit.specs.declared.circuit.Spot.{Spot}
 use Rattle.act1_circuit.specs.Range.{HasSource, InRange}
-use Rattle.act1_plan.specs.Lists.{numbers}
+use Rattle.act1_base.specs.Lists.{numbers}
 use Rattle.act1_plan.specs.Nets.{is_same_source}
 use Rattle.act1_plan.specs.Order.{named, site_number, renumbered_output}
 use Rattle.act1_place.specs.declared.net.Place.{Place}
 use Rattle.act1_place.specs.Passes.{moved, exchange}
 use Rattle.act1_place.specs.Perimeter.{place_of, pad_place, End, pin_ends, output_ends, all_ends, nets_of, own_place, places_of, half_perimeter, total}
-use Rattle.act1_place.proofs.Distinct.{Differ, differ_numbers}
-use Rattle.act1_place.proofs.Elements.{here, later, first_or_later, not_in_none, in_filter, filtered, in_map, mapped, in_numbers, number_in}
+use Rattle.act1_base.proofs.Distinct.{Differ, differ_numbers}
+use Rattle.act1_base.proofs.Elements.{here, later, first_or_later, not_in_none, in_filter, filtered, in_map, mapped, in_numbers, number_in}
 use Rattle.act1_place.proofs.KeptSums.{perimeter_among, sum_agree, sum_map, pin_end_is, is_pin_end}
 use Rattle.act1_place.proofs.SourceFacts.{same_source_is, source_is_itself}
 use Rattle.act1_place.proofs.Starts.{placements_settle_law}

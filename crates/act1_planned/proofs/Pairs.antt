@@ -7,8 +7,8 @@ use Rattle.std.proofs.lemmas.List.Kept.{AllPairs-cons}
 use Rattle.std.proofs.lemmas.Option.{get_or_from_slice_get}
 use Rattle.act1_base.specs.Rising.{Rises}
 use Rattle.act1_base.proofs.ListGets.{get_within, place_of, some_is}
-use Rattle.act1_plan.specs.Lists.{numbers}
-use Rattle.act1_place.proofs.Elements.{here, later, first_or_later, not_in_none, mapped, flattened, number_in}
+use Rattle.act1_base.specs.Lists.{numbers}
+use Rattle.act1_base.proofs.Elements.{here, later, first_or_later, not_in_none, mapped, flattened, number_in}
 
 module _ {X : Type 0} where
   -- what holds of each element of the list holds all along it

@@ -19,7 +19,7 @@ use Rattle.act1_blif.proofs.NetFacts.{all_at, latch_is, names_are, output_is, ou
 use Rattle.act1_circuit.specs.declared.circuit.Circuit.{Circuit}
 use Rattle.act1_circuit.specs.declared.circuit.Start.{Start}
 use Rattle.act1_meaning.specs.Meaning.{Ports, StartsLatch}
-use Rattle.act1_place.proofs.Elements.{here, in_map, mapped, none_passes}
+use Rattle.act1_base.proofs.Elements.{here, in_map, mapped, none_passes}
 use Rattle.act1_plan.specs.Legal.{output_names, start_names}
 use Rattle.act1_planned.specs.Laws.{PortsAreNamed}
 use Rattle.act1_planned.specs.Placed.{IsNamed}

@@ -13,9 +13,9 @@ use Rattle.act1_circuit.specs.declared.circuit.Source.TheVariants.{Zero, One, Cl
 use Rattle.act1_circuit.specs.Firing.{AreRounds, IsAtRest, IsRound, IsWave, RestsAlong, Waves, fire, fire_all, fired, high_bits, low_bits, run, shown, source_value}
 use Rattle.act1_circuit.specs.Range.{HasSource, InRange}
 use Rattle.act1_logic.specs.Module.{module_of}
-use Rattle.act1_plan.specs.Lists.{numbers}
+use Rattle.act1_base.specs.Lists.{numbers}
 use Rattle.act1_plan.specs.Order.{named, renumbered_output}
-use Rattle.act1_place.proofs.Elements.{mapped, numbers_get}
+use Rattle.act1_base.proofs.Elements.{mapped, numbers_get}
 use Rattle.act1_planned.proofs.Numbered.{IsNumbered, fits}
 
 length_numbers : (first count : ℕ) → length (numbers first count) ≡ count

@@ -71,7 +71,7 @@ pub(crate) fn read_report(alloc: Global, bytes: &[u8]) -> Result<Report, ReportF
     ensures { ReportReads bytes.now result }
 {
     let format = ReportFormat { alloc };
-    match read_text(alloc, &format, bytes) {
+    match read_text(&format, bytes) {
         Ok(state) => match state {
             ReportState::End { draft } => Ok(report_of(draft)),
             _ => unreachable!(),

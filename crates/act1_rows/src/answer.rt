@@ -1,6 +1,7 @@
 use crate::fault::Fault;
 use crate::setting::Setting;
 use crate::story::show_story;
+use act1_base::HashSeed;
 use act1_outside::{FakeHelpers, MemoryFiles, MemorySink};
 use act1_top::run;
 use std::alloc::Global;
@@ -118,7 +119,14 @@ pub fn answer_of(alloc: Global, setting: &Setting) -> Result<Answer, Fault> {
     let mut files = files_of(alloc, setting)?;
     let mut out = sink_of(alloc, setting)?;
     let mut helpers = helpers_of(alloc, setting)?;
-    let status = run(alloc, &setting.words, &mut files, &mut out, &mut helpers);
+    let status = run(
+        alloc,
+        HashSeed::new([0; 16]),
+        &setting.words,
+        &mut files,
+        &mut out,
+        &mut helpers,
+    );
     Ok(Answer {
         status,
         printed: Vec::from_slice(alloc, out.bytes())?,

@@ -1,6 +1,5 @@
 -- The cycles of a simulation, one after the other.
-use Rattle.std.proofs.Common.{ℕ, suc, ◌≡◌, ◌+◌, ◌<◌, Bool, List, ◌∷◌, ◌++◌, length, map, drop, get_or, Some, inl, inr, sym, ap, subst, ◌∙◌, arith, append_assoc}
-use Rattle.std.proofs.lemmas.List.{drop_more}
+use Rattle.std.proofs.Common.{ℕ, suc, ◌≡◌, ◌+◌, ◌<◌, Bool, List, [], ◌∷◌, ◌++◌, length, get_or, Some, inl, inr, refl, sym, ap, subst, ◌∙◌, arith, append_assoc}
 use Rattle.std.proofs.lemmas.Option.{slice_get-get_or}
 use Rattle.std.specs.Prelude.{slice_get}
 use Rattle.act1_circuit.specs.declared.circuit.Placed.{Placed}
@@ -39,9 +38,15 @@ stops_here c first xs cycle bits x rest text m old unrests =
     let e : cycle + 0 ≡ cycle = omega arith in
     subst (λ (n : ℕ). IsFirstUnrest c first xs n m) e (old.unrest 0 m unrests)
 
--- the vector at this place is the first of those to come
-pub vectors_from : {L : Type 0} (f : L → List Bool) (lines : List L) (i : ℕ) (d : L) → i < length lines → map f (drop i lines) ≡ f (get_or lines i d) ∷ map f (drop (i + 1) lines)
-vectors_from f lines i d low = ap (map f) (drop_more lines i d low)
+-- before the first cycle
+pub begins_all : (c : Circuit) (first : List Bool) (xs rest : List (List Bool)) (text : List ℕ) → rest ≡ xs → text ≡ [] → Goes c first xs 0 first rest text
+begins_all c first xs rest text same none =
+    rw (same, none)
+    (record {
+      rests = λ h. h;
+      text_is = refl;
+      unrest = λ k m h. let e : k ≡ 0 + k = omega arith in subst (λ (n : ℕ). IsFirstUnrest c first xs n m) e h;
+    })
 
 -- the spot of a module that doesn't rest
 pub stops_at : (p : Placed) (first : List Bool) (xs : List (List Bool)) (cycle : ℕ) (bits x : List Bool) (rest to_come : List (List Bool)) (text : List ℕ) (m : ℕ) (spot : Spot) → length p.spots ≡ length p.circuit.modules

@@ -1,27 +1,16 @@
 -- The lines of a text of vectors, and the characters of its outputs.
-use Rattle.std.proofs.Common.{ℕ, ◌≡◌, ◌+◌, ◌^◌, get_or, nat_lt, ◌<◌, ◌==◌, Bool, true, false, not, if◌then◌else◌, List, [], ◌∷◌, ◌++◌, length, map, take, Some, None, ◌≤◌, append_assoc, refl, sym, ap, ◌∙◌, arith}
+use Rattle.std.proofs.Common.{ℕ, suc, zero, ◌≡◌, ◌+◌, ◌<◌, ◌≤◌, ◌==◌, Bool, true, false, if◌then◌else◌, List, [], ◌∷◌, ◌++◌, length, map, take, drop, Some, None, append_assoc, refl, sym, ap, subst, ◌∙◌, arith}
+use Rattle.std.specs.Prelude.{slice_get}
+use Rattle.std.specs.List.{slice_split}
 use Rattle.std.specs.Str.Lines.{lines, lines_of_parts, strip_carriage_return}
-use Rattle.std.specs.List.{slice_split, position}
-use Rattle.std.specs.Borrow.{Bor}
-use Rattle.std.proofs.lemmas.List.{length-map, map-append}
-use Rattle.std.proofs.lemmas.List.Quantifiers.{position-Some}
+use Rattle.std.proofs.lemmas.Bool.Decides.{nat_tests}
+use Rattle.std.proofs.lemmas.List.{take_all}
 use Rattle.std.proofs.lemmas.List.Splits.{length-slice_split}
 use Rattle.std.proofs.lemmas.List.Sums.{count_by-le-length}
-use Rattle.std.proofs.lemmas.List.{take_all}
-use Rattle.std.specs.Prelude.{slice_get}
-use Rattle.std.specs.List.{list_all, position_or_len, AllPass}
-use Rattle.std.proofs.lemmas.List.Sums.{fails_before_first, list_all-from_AllPass}
-use Rattle.std.proofs.lemmas.List.Folds.{list_all-map}
-use Rattle.std.proofs.lemmas.Option.{slice_get-get_or}
-use Rattle.std.proofs.lemmas.Bool.Decides.{nat_tests}
-use Rattle.act1_base.proofs.ListGets.{some_is, get_in, get_map, get_mapped}
-use Rattle.act1_sim.specs.Vectors.{digit, output_line, is_vector, are_vectors, bits_of, AreVectorsOf, IsFirstNoVector}
-
--- the pieces before the last one are ended lines
-pub parts_of_ended : (ended : List (List ℕ)) (last : List ℕ) → lines_of_parts (ended ++ last ∷ []) ≡ map strip_carriage_return ended ++ (if length last == 0 then [] else last ∷ [])
-parts_of_ended [] last = refl
-parts_of_ended (line ∷ []) last = refl
-parts_of_ended (line ∷ next ∷ ended) last = ap (λ (parts : List (List ℕ)). strip_carriage_return line ∷ parts) (parts_of_ended (next ∷ ended) last)
+use Rattle.act1_base.proofs.LineCuts.{first_feed}
+use Rattle.act1_base.proofs.ListGets.{some_is}
+use Rattle.act1_base.proofs.TextReads.{parts_of, some_part, split_feed, split_none}
+use Rattle.act1_sim.specs.Vectors.{digit, output_line, is_vector, are_vectors, IsFirstNoVector}
 
 pub map_twice : {X Y Z : Type 0} (f : X → Y) (g : Y → Z) (xs : List X) → map g (map f xs) ≡ map (λ x. g (f x)) xs
 map_twice f g [] = refl
@@ -34,23 +23,6 @@ printed outputs read n g start now new is all so_far last =
     let taken = ap (λ xs. map (λ o. digit (g o)) xs) (take_all n read all ∙ is) ∙ sym (map_twice g digit outputs) in
     last ∙ ap (λ (t : List ℕ). t ++ 10 ∷ []) (so_far ∙ ap (λ (t : List ℕ). start ++ t) taken) ∙ append_assoc start (map digit (map g outputs)) (10 ∷ [])
 
--- the bytes of the lines
-abbrev pub texts : List (Bor (List ℕ)) → List (List ℕ)
-texts lines = map (λ (line : Bor (List ℕ)). line.now) lines
-
--- what the code reads of a text that was cut into pieces
-pub lines_are : (bytes : List ℕ) (pieces read ended found all : List (Bor (List ℕ))) (last : Bor (List ℕ)) → texts pieces ≡ slice_split (λ b. b == 10) bytes → read ≡ pieces → read ≡ ended ++ last ∷ []
-    → texts found ≡ map (λ (piece : Bor (List ℕ)). strip_carriage_return piece.now) ended → texts all ≡ texts found ++ (if length last.now == 0 then [] else last.now ∷ []) → texts all ≡ lines bytes
-lines_are bytes pieces read ended found all last cut same whole ended_lines all_is =
-    let f : Bor (List ℕ) → List ℕ = λ piece. piece.now in
-    let split : slice_split (λ b. b == 10) bytes ≡ texts ended ++ last.now ∷ [] = sym cut ∙ ap texts (sym same ∙ whole) ∙ map-append f ended (last ∷ []) in
-    all_is ∙ ap (λ xs. xs ++ (if length last.now == 0 then [] else last.now ∷ [])) (ended_lines ∙ sym (map_twice f strip_carriage_return ended))
-    ∙ sym (ap lines_of_parts split ∙ parts_of_ended (texts ended) last.now)
-
--- with no piece there is no line
-pub no_pieces : (bytes : List ℕ) (pieces : List (Bor (List ℕ))) → texts pieces ≡ slice_split (λ b. b == 10) bytes → pieces ≡ [] → [] ≡ lines bytes
-no_pieces bytes pieces cut none = ap lines_of_parts (sym (ap texts none) ∙ cut)
-
 few_parts : (parts : List (List ℕ)) → length (lines_of_parts parts) ≤ length parts
 few_parts [] = omega arith
 few_parts (line ∷ []) = at_end (length line == 0)
@@ -61,79 +33,93 @@ few_parts (line ∷ []) = at_end (length line == 0)
 few_parts (line ∷ next ∷ parts) = let h = few_parts (next ∷ parts) in omega arith
 
 -- there is at most one line more than bytes
-few_lines : (bytes : List ℕ) → length (lines bytes) ≤ length bytes + 1
+pub few_lines : (bytes : List ℕ) → length (lines bytes) ≤ length bytes + 1
 few_lines bytes =
     let parts = length-slice_split (λ b. b == 10) bytes in
     let cuts = count_by-le-length (λ b. b == 10) bytes in
     let h = few_parts (slice_split (λ b. b == 10) bytes) in
     omega arith
 
-if_first : (b : Bool) (n i : ℕ) → (if b then Some n else None) ≡ Some i → (b ≡ true) × (n ≡ i)
-if_first true n i e = (refl, cc)
-if_first false n i e = cc
+first_of_parts : (line : List ℕ) (parts : List (List ℕ)) → 0 < length parts → lines_of_parts (line ∷ parts) ≡ strip_carriage_return line ∷ lines_of_parts parts
+first_of_parts line [] some = absurd (omega arith)
+first_of_parts line (part ∷ parts) some = refl
 
-if_none : (b : Bool) (n : ℕ) → (if b then Some n else None) ≡ None → b ≡ false
-if_none true n e = cc
-if_none false n e = refl
+-- the first line goes to a line feed that was found
+pub at_feed : (n : ℕ) (bytes : List ℕ) → Some n ≡ first_feed bytes → lines bytes ≡ strip_carriage_return (take n bytes) ∷ lines (drop (n + 1) bytes)
+at_feed n bytes h = ap lines_of_parts (split_feed n bytes h) ∙ first_of_parts (take n bytes) (parts_of (drop (n + 1) bytes)) (some_part (drop (n + 1) bytes))
 
-position_within : {X : Type 0} (p : X → Bool) (xs : List X) (i : ℕ) → position p xs ≡ Some i → i < length xs
-position_within p xs i e = let h = if_first (nat_lt (position_or_len p xs) (length xs)) (position_or_len p xs) i e in let t = h.0 in let s = h.1 in grind (arith, nat_tests)
+some_bytes : (n : ℕ) → 0 < n → (n == 0) ≡ false
+some_bytes n some = grind (arith, nat_tests)
 
--- no element passes
-no_position : {X : Type 0} (p : X → Bool) (xs : List X) → position p xs ≡ None → (k : ℕ) (d : X) → k < length xs → p (get_or xs k d) ≡ false
-no_position p xs e k d low =
-    let t = if_none (nat_lt (position_or_len p xs) (length xs)) (position_or_len p xs) e in
-    let far : length xs ≤ position_or_len p xs = grind (arith, nat_tests) in
-    fails_before_first p xs k d (omega arith)
+-- with no line feed the bytes are one line
+pub no_feed : (bytes : List ℕ) → 0 < length bytes → None ≡ first_feed bytes → lines bytes ≡ bytes ∷ []
+no_feed [] some h = absurd (omega arith)
+no_feed (b ∷ bytes) some h = rw (split_none (b ∷ bytes) h, some_bytes (length (b ∷ bytes)) some) refl
 
-not_false : (b : Bool) → not b ≡ false → b ≡ true
-not_false true e = refl
-not_false false e = cc
+-- one line fewer is left
+pub fewer : (before line : List ℕ) (rest : List ℕ) → lines before ≡ line ∷ lines rest → length (lines rest) < length (lines before)
+fewer before line rest h = rw h (omega arith)
 
-not_true : (b : Bool) → not b ≡ true → b ≡ false
-not_true true e = cc
-not_true false e = refl
+-- the line at this place is no vector, and each before it is one
+pub record IsFirstIn (width : ℕ) (all : List (List ℕ)) (place : ℕ) (line : List ℕ) : Type 0 where
+  pub there : slice_get all place ≡ Some line
+  pub fails : is_vector width line ≡ false
+  pub first : (k : ℕ) (other : List ℕ) → k < place → slice_get all k ≡ Some other → is_vector width other ≡ true
 
--- a place among the lines fits the number of a line
-pub line_fits : (bytes : List ℕ) (found read : List (Bor (List ℕ))) (place : ℕ) (p : Bor (List ℕ) → Bool) → texts found ≡ lines bytes → read ≡ found → length bytes ≤ 4000000000 → Some place ≡ position p read → place + 1 < 2 ^ 32
-line_fits bytes found read place p are same small e =
-    let low = position_within p read place (sym e) in
-    let long = ap length same in
-    let count = sym (length-map found (λ (line : Bor (List ℕ)). line.now)) ∙ ap length are in
-    let few = few_lines bytes in
-    omega arith
+-- so many lines were vectors, and those to come decide
+pub record Passed (width : ℕ) (all : List (List ℕ)) (place : ℕ) (rest : List (List ℕ)) : Type 0 where
+  pub each : are_vectors width rest ≡ true → are_vectors width all ≡ true
+  pub first : (k : ℕ) (line : List ℕ) → IsFirstIn width rest k line → IsFirstIn width all (place + k) line
 
--- each line is a vector where none is found that isn't
-pub all_vectors : (width : ℕ) (bytes : List ℕ) (found read : List (Bor (List ℕ))) → texts found ≡ lines bytes → read ≡ found
-    → None ≡ position (λ (line : Bor (List ℕ)). not (is_vector width line.now)) read → AreVectorsOf width bytes (map (λ (line : Bor (List ℕ)). bits_of line.now) found)
-all_vectors width bytes found read are same none =
-    let f : Bor (List ℕ) → List ℕ = λ line. line.now in
-    let each : AllPass (λ (line : Bor (List ℕ)). is_vector width line.now) read = λ k d low. not_false (is_vector width (get_or read k d).now) (no_position (λ (line : Bor (List ℕ)). not (is_vector width line.now)) read (sym none) k d low) in
+-- the lines before that of this number, from 1, were vectors
+abbrev pub AreBefore : ℕ → List (List ℕ) → ℕ → List (List ℕ) → Type 0
+AreBefore width all number rest = (place : ℕ) × (number ≡ place + 1) × Passed width all place rest
+
+none_passed : (width : ℕ) (all : List (List ℕ)) → Passed width all 0 all
+none_passed width all =
     record {
-      each = ap (are_vectors width) (sym are) ∙ list_all-map (is_vector width) f found ∙ ap (list_all (λ (line : Bor (List ℕ)). is_vector width line.now)) (sym same) ∙ list_all-from_AllPass (λ (line : Bor (List ℕ)). is_vector width line.now) read each;
-      are = sym (map_twice f bits_of found) ∙ ap (map bits_of) are;
+      each = λ h. h;
+      first = λ k line h. let e : k ≡ 0 + k = omega arith in subst (λ (n : ℕ). IsFirstIn width all n line) e h;
     }
 
--- the first line that is found to be no vector
-pub first_refused : (width : ℕ) (bytes : List ℕ) (found read : List (Bor (List ℕ))) (place : ℕ) → texts found ≡ lines bytes → read ≡ found
-    → Some place ≡ position (λ (line : Bor (List ℕ)). not (is_vector width line.now)) read → IsFirstNoVector width bytes (place + 1)
-first_refused width bytes found read place are same e =
-    let f : Bor (List ℕ) → List ℕ = λ line. line.now in
-    let test : Bor (List ℕ) → Bool = λ line. not (is_vector width line.now) in
-    let low = position_within test read place (sym e) in
-    let here = get_in read place low in
-    let h = position-Some test read place here.0 (sym e) in
-    let is_here : get_or read place here.0 ≡ here.0 = some_is (get_or read place here.0) here.0 (sym (slice_get-get_or read place here.0 low) ∙ here.1) in
-    let all : texts read ≡ lines bytes = ap texts same ∙ are in
+first_later : (width : ℕ) (line : List ℕ) (rest : List (List ℕ)) (k : ℕ) (other : List ℕ) → is_vector width line ≡ true → IsFirstIn width rest k other → IsFirstIn width (line ∷ rest) (suc k) other
+first_later width line rest k other is h =
     record {
-      place = place;
-      numbered = refl;
-      line = here.0.now;
-      there = ap (λ (xs : List (List ℕ)). slice_get xs place) (sym all) ∙ get_map f read place here.0 here.1;
-      fails = not_true (is_vector width here.0.now) (ap test (sym is_here) ∙ h.1);
-      first = λ k other before at.
-          let other_at = get_mapped f read k other (ap (λ (xs : List (List ℕ)). slice_get xs k) all ∙ at) in
-          let inside : k < length read = omega arith in
-          let is_other : get_or read k here.0 ≡ other_at.0 = some_is (get_or read k here.0) other_at.0 (sym (slice_get-get_or read k here.0 inside) ∙ other_at.1) in
-          ap (is_vector width) (sym other_at.2) ∙ not_false (is_vector width other_at.0.now) (ap test (sym is_other) ∙ h.2 k before);
+      there = h.there;
+      fails = h.fails;
+      first = earlier;
     }
+  where
+    earlier : (j : ℕ) (u : List ℕ) → j < suc k → slice_get (line ∷ rest) j ≡ Some u → is_vector width u ≡ true
+    earlier zero u low e = ap (is_vector width) (sym (some_is line u e)) ∙ is
+    earlier (suc j) u low e = h.first j u (omega arith) e
+
+-- a line that is a vector
+passed_more : (width : ℕ) (all : List (List ℕ)) (place : ℕ) (line : List ℕ) (rest before : List (List ℕ)) → before ≡ line ∷ rest → Passed width all place before → is_vector width line ≡ true → Passed width all (place + 1) rest
+passed_more width all place line rest before cut old is =
+    let same : Passed width all place (line ∷ rest) = subst (λ (ls : List (List ℕ)). Passed width all place ls) cut old in
+    record {
+      each = λ h. same.each (rw (is, h) refl);
+      first = λ k other h.
+          let e : place + suc k ≡ place + 1 + k = omega arith in
+          subst (λ (n : ℕ). IsFirstIn width all n other) e (same.first (suc k) other (first_later width line rest k other is h));
+    }
+
+-- a line that is none
+stops_here : (width : ℕ) (bytes : List ℕ) (place number : ℕ) (line : List ℕ) (rest before : List (List ℕ)) → before ≡ line ∷ rest → Passed width (lines bytes) place before → is_vector width line ≡ false → number ≡ place + 1
+    → IsFirstNoVector width bytes number
+stops_here width bytes place number line rest before cut old fails numbered =
+    let same : Passed width (lines bytes) place (line ∷ rest) = subst (λ (ls : List (List ℕ)). Passed width (lines bytes) place ls) cut old in
+    let h = same.first 0 line (record { there = refl; fails = fails; first = λ k other low e. absurd (omega arith) }) in
+    let e : place + 0 ≡ place = omega arith in
+    let g : IsFirstIn width (lines bytes) place line = subst (λ (n : ℕ). IsFirstIn width (lines bytes) n line) e h in
+    record { place = place; numbered = numbered; line = line; there = g.there; fails = g.fails; first = g.first }
+
+pub none_before : (width : ℕ) (all : List (List ℕ)) → AreBefore width all 1 all
+none_before width all = (0, omega arith, none_passed width all)
+
+pub before_more : (width : ℕ) (all : List (List ℕ)) (number : ℕ) (line : List ℕ) (rest before : List (List ℕ)) → before ≡ line ∷ rest → AreBefore width all number before → is_vector width line ≡ true → AreBefore width all (number + 1) rest
+before_more width all number line rest before cut (place, numbered, passed) is = (place + 1, omega (arith, numbered), passed_more width all place line rest before cut passed is)
+
+pub refused_here : (width : ℕ) (bytes : List ℕ) (number : ℕ) (line : List ℕ) (rest before : List (List ℕ)) → before ≡ line ∷ rest → AreBefore width (lines bytes) number before → is_vector width line ≡ false → IsFirstNoVector width bytes number
+refused_here width bytes number line rest before cut (place, numbered, passed) fails = stops_here width bytes place number line rest before cut passed fails numbered

@@ -7,9 +7,9 @@ use Rattle.act1_array.specs.Gives.{Gives}
 use Rattle.act1_sim.specs.declared.fault.SimFault.{SimFault}
 use Rattle.act1_sim.specs.declared.fault.SimFault.TheVariants.{Array, Vector, Unsettled, Memory}
 use Rattle.act1_sim.specs.Cycles.{outputs, Rests, BeginsWith}
-use Rattle.act1_sim.specs.Vectors.{AreVectorsOf, output_text}
+use Rattle.act1_sim.specs.Vectors.{AreVectorsOf, IsFirstNoVector, output_text}
 use Rattle.act1_sim.specs.Simulation.{IsSetUp, Simulates, RefusesToSimulate}
-use Rattle.act1_sim.specs.SimulationSteps.{ArrayStops, VectorStops, UnsettledBy}
+use Rattle.act1_sim.specs.SimulationSteps.{ArrayStops, UnsettledBy}
 
 -- what refuses the array refuses the simulation
 pub array_refused : (dev : Device) (f : FuseFile) (bytes : List ℕ) (fill : Bool) (e : SimFault) → ArrayStops dev f e → RefusesToSimulate dev f bytes fill e
@@ -18,10 +18,8 @@ array_refused dev f bytes fill Memory h = tt
 array_refused dev f bytes fill e h = elim h [ ]
 
 module _ (dev : Device) (f : FuseFile) (bytes : List ℕ) (fill : Bool) (p : Placed) (given : Gives dev f (Ok p)) where
-  pub vector_refused : (e : SimFault) → VectorStops (length p.circuit.inputs) bytes e → RefusesToSimulate dev f bytes fill e
-  vector_refused (Vector line) h = record { placed = p; array = given; first = h }
-  vector_refused Memory h = tt
-  vector_refused e h = elim h [ ]
+  pub vector_refused : (line : ℕ) → IsFirstNoVector (length p.circuit.inputs) bytes line → RefusesToSimulate dev f bytes fill (Vector line)
+  vector_refused line h = record { placed = p; array = given; first = h }
 
   module _ (xs : List (List Bool)) (bits : List Bool) (vectors : AreVectorsOf (length p.circuit.inputs) bytes xs) (begins : BeginsWith p.circuit fill bits) where
     set_up : IsSetUp dev f bytes fill p xs bits

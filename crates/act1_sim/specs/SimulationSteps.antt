@@ -1,5 +1,6 @@
 -- What stops the stages of a simulation.
-use Rattle.std.specs.Prelude.{ℕ, ◌≡◌, ◌≢◌, Bool, List, Err, Some, slice_get}
+use Rattle.std.specs.Prelude.{ℕ, ◌≡◌, ◌≢◌, Bool, true, List, Option, Some, None, Err, slice_get}
+use Rattle.std.specs.Str.Lines.{lines}
 use Rattle.act1_base.specs.declared.texts.Stop.{Stop}
 use Rattle.act1_base.specs.declared.texts.Stop.TheVariants as stop
 use Rattle.act1_device.specs.declared.device.Device.{Device}
@@ -8,9 +9,9 @@ use Rattle.act1_fuses.specs.declared.fuses.FuseFile.{FuseFile}
 use Rattle.act1_array.specs.Gives.{Gives}
 use Rattle.act1_array.specs.declared.fault.ArrayFault.TheVariants as array
 use Rattle.act1_sim.specs.declared.fault.SimFault.{SimFault}
-use Rattle.act1_sim.specs.declared.fault.SimFault.TheVariants.{Array, Vector, Unsettled, Memory}
+use Rattle.act1_sim.specs.declared.fault.SimFault.TheVariants.{Array, Unsettled, Memory}
 use Rattle.act1_sim.specs.Cycles.{IsFirstUnrest}
-use Rattle.act1_sim.specs.Vectors.{IsFirstNoVector}
+use Rattle.act1_sim.specs.Vectors.{are_vectors, IsFirstNoVector}
 
 -- what stopped a cycle: a module of this kind, or want of memory, which is free
 abbrev pub OnUnrest : (ℕ → Type 0) → Stop ℕ → Type 0
@@ -29,8 +30,7 @@ UnsettledBy p bits xs (Unsettled cycle spot) = (m : ℕ) × IsFirstUnrest p.circ
 UnsettledBy p bits xs Memory = Unit {0}
 UnsettledBy p bits xs e = ⊥
 
--- a line of the text is no vector, or memory was short
-abbrev pub VectorStops : ℕ → List ℕ → SimFault → Type 0
-VectorStops width bytes (Vector line) = IsFirstNoVector width bytes line
-VectorStops width bytes Memory = Unit {0}
-VectorStops width bytes e = ⊥
+-- the number of the first line that is no vector, where there is one
+abbrev pub FindsNoVector : ℕ → List ℕ → Option ℕ → Type 0
+FindsNoVector width bytes None = are_vectors width (lines bytes) ≡ true
+FindsNoVector width bytes (Some number) = IsFirstNoVector width bytes number

@@ -1,18 +1,19 @@
 ghost use Rattle.std.specs.Prelude.{◌≡◌, ◌≢◌, ◌≤◌, length, map, AllPairs, Ok, IfOk, IfErr};
+ghost use Rattle.std.specs.Str.Lines.{lines};
 ghost use Rattle.act1_circuit.specs.declared.circuit.Start.{Start};
 ghost use Rattle.act1_circuit.specs.Range.{InRange};
 ghost use Rattle.act1_engine.specs.Engines.{engine_bits, IsEngineOf};
 ghost use Rattle.act1_fuses.specs.Rules.{KeepsRules};
 ghost use Rattle.act1_array.specs.Gives.{Gives};
 ghost use Rattle.act1_sim.specs.Cycles.{outputs, Rests};
-ghost use Rattle.act1_sim.specs.Vectors.{AreVectorsOf, bits_of, output_text};
+ghost use Rattle.act1_sim.specs.Vectors.{bits_of, output_text};
 ghost use Rattle.act1_sim.specs.Simulation.{Simulates, RefusesToSimulate};
-ghost use Rattle.act1_sim.specs.SimulationSteps.{ArrayStops, UnsettledBy, VectorStops};
+ghost use Rattle.act1_sim.specs.SimulationSteps.{ArrayStops, UnsettledBy};
 
 use crate::begin::first_engine;
 use crate::cycle::run_cycle;
 use crate::fault::SimFault;
-use crate::vectors::{first_no_vector, vector_lines};
+use crate::vectors::{VectorLines, first_no_vector};
 use act1_array::{ArrayFault, circuit_of};
 use act1_base::Stop;
 use act1_circuit::Placed;
@@ -36,46 +37,34 @@ fn circuit_in(alloc: Global, device: &Device, file: &FuseFile) -> Result<Placed,
     }
 }
 
-// The lines of a text of vectors, if each is one.
-fn vectors_in(alloc: Global, bytes: &[u8], width: usize) -> Result<Vec<&[u8]>, SimFault>
-    requires { length bytes.now ≤ 4000000000 }
-    ensures ok { IfOk result (λ found. AreVectorsOf width bytes.now (map (λ line. bits_of line.now) found.items)) }
-    ensures err { IfErr result (VectorStops width bytes.now) }
-{
-    let Ok(lines) = vector_lines(alloc, bytes) else {
-        return Err(SimFault::Memory);
-    };
-    match first_no_vector(&lines, width) {
-        None => Ok(lines),
-        Some(place) => Err(SimFault::Vector(place as u32 + 1)),
-    }
-}
-
-// The cycles of the lines, one after the other.
+// The cycles of the lines of a text, one after the other.
 fn run_lines(
     alloc: Global,
     placed: &Placed,
-    lines: &[&[u8]],
+    vectors: &[u8],
     engine: &mut Engine,
 ) -> Result<Vec<u8>, SimFault>
+    requires few { length vectors.now ≤ 4000000000 }
     requires is { IsEngineOf placed.now.circuit engine.old }
     requires spots { length placed.now.spots ≡ length placed.now.circuit.modules }
-    ensures rests { IfOk result (λ text. Rests placed.now.circuit (engine_bits engine.old) (map (λ line. bits_of line.now) lines.now)) }
-    ensures text { IfOk result (λ text. text.items ≡ output_text (outputs placed.now.circuit (engine_bits engine.old) (map (λ line. bits_of line.now) lines.now))) }
-    ensures err { IfErr result (UnsettledBy placed.now (engine_bits engine.old) (map (λ line. bits_of line.now) lines.now)) }
+    ensures rests { IfOk result (λ text. Rests placed.now.circuit (engine_bits engine.old) (map bits_of (lines vectors.now))) }
+    ensures text { IfOk result (λ text. text.items ≡ output_text (outputs placed.now.circuit (engine_bits engine.old) (map bits_of (lines vectors.now)))) }
+    ensures err { IfErr result (UnsettledBy placed.now (engine_bits engine.old) (map bits_of (lines vectors.now))) }
 {
     let mut text = Vec::new(alloc);
-    for (cycle, line) in lines.iter().enumerate() {
+    let mut cycle = 0;
+    for line in VectorLines::new(vectors) {
         match run_cycle(alloc, &placed.circuit, line, engine, &mut text) {
             Ok(()) => {}
             Err(Stop::Fault(module)) => {
                 return Err(SimFault::Unsettled {
-                    cycle: cycle as u64,
+                    cycle,
                     spot: placed.spots.as_slice()[usize::from(module)],
                 });
             }
             Err(Stop::Memory) => return Err(SimFault::Memory),
         }
+        cycle += 1;
     }
     Ok(text)
 }
@@ -104,9 +93,11 @@ pub fn simulate(
     ensures err { IfErr result (RefusesToSimulate device.now file.now vectors.now fill) }
 {
     let placed = circuit_in(alloc, device, file)?;
-    let lines = vectors_in(alloc, vectors, placed.circuit.inputs.len())?;
+    if let Some(line) = first_no_vector(vectors, placed.circuit.inputs.len()) {
+        return Err(SimFault::Vector(line));
+    }
     let Ok(mut engine) = first_engine(alloc, &placed.circuit, fill) else {
         return Err(SimFault::Memory);
     };
-    run_lines(alloc, &placed, &lines, &mut engine)
+    run_lines(alloc, &placed, vectors, &mut engine)
 }

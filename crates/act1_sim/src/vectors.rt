@@ -1,10 +1,13 @@
-ghost use Rattle.std.specs.Prelude.{◌≡◌, ◌==◌, [], ◌∷◌, ◌++◌, if◌then◌else◌, not, length, map, IfOk, OnOk};
-ghost use Rattle.std.specs.List.{position, list_all};
+ghost use Rattle.std.specs.Prelude.{◌≡◌, ◌≤◌, length, IfOk};
+ghost use Rattle.std.specs.Iterator.{YieldsFirstBy, item_count};
+ghost use Rattle.std.specs.List.{list_all};
 ghost use Rattle.std.specs.Str.Lines.{lines, strip_carriage_return};
+ghost use Rattle.act1_sim.specs.SimulationSteps.{FindsNoVector};
 ghost use Rattle.act1_sim.specs.Vectors.{is_digit, is_vector, bits_of};
 
-use act1_base::{Memory, pieces_of};
+use act1_base::line_feed;
 use std::alloc::{AllocError, Global};
+use std::marker::Model;
 
 // The line without its last byte, if that is a carriage return.
 fn without_return(line: &[u8]) -> &[u8]
@@ -17,38 +20,56 @@ fn without_return(line: &[u8]) -> &[u8]
     }
 }
 
-// The lines of these pieces, each of which a line feed ends.
-fn ended_lines<'a>(alloc: Global, pieces: &[&'a [u8]]) -> Result<Vec<&'a [u8]>, Memory>
-    ensures { IfOk result (λ lines. map (λ line. line.now) lines.items ≡ map (λ piece. strip_carriage_return piece.now) pieces.now) }
-{
-    let mut lines = Vec::new(alloc);
-    for piece in pieces {
-        lines.push(without_return(piece))?;
-    }
-    Ok(lines)
+/// The lines of a text of vectors, in order and without their ends: a carriage return before a line
+/// feed belongs to the line's end, and what stands behind the last line feed is a line if there is
+/// anything. It takes no memory.
+#[derive(Drop)]
+pub struct VectorLines<'a> {
+    rest: &'a [u8],
 }
 
-// Adds what stands behind the last line feed, if there is anything.
-fn push_last<'a>(lines: &mut Vec<&'a [u8]>, last: &'a [u8]) -> Result<(), Memory>
-    ensures { OnOk result (map (λ line. line.now) lines.new.items ≡ map (λ line. line.now) lines.old.items ++ (if length last.entry.now == 0 then [] else last.entry.now ∷ [])) }
-{
-    if !last.is_empty() {
-        lines.push(last)?;
-    }
-    Ok(())
+impl<'a> Model for VectorLines<'a> {
+    ghost use Rattle.std.specs.Prelude.{List, ℕ};
+    ghost use Rattle.std.specs.Str.Lines.{lines};
+
+    ghost Value = { List (List ℕ) };
+
+    ghost view = { λ text. lines text.rest.now };
 }
 
-/// The lines of a text of vectors, without their ends.
-pub fn vector_lines(alloc: Global, bytes: &[u8]) -> Result<Vec<&[u8]>, Memory>
-    ensures { IfOk result (λ found. map (λ line. line.now) found.items ≡ lines bytes.now) }
-{
-    let pieces = pieces_of(alloc, bytes)?;
-    let Some((last, ended)) = pieces.split_last() else {
-        return Ok(Vec::new(alloc));
-    };
-    let mut lines = ended_lines(alloc, ended)?;
-    push_last(&mut lines, last)?;
-    Ok(lines)
+impl<'a> VectorLines<'a> {
+    /// The lines of these bytes.
+    pub fn new(bytes: &'a [u8]) -> VectorLines<'a>
+        ensures { result ≡ lines bytes.entry.now }
+    {
+        VectorLines { rest: bytes }
+    }
+}
+
+impl<'a> Iterator for VectorLines<'a> {
+    type Item = &'a [u8];
+
+    ghost next_gives = { YieldsFirstBy (λ line. line.now) (λ text. text) };
+
+    ghost remaining = { item_count (λ text. text) };
+
+    fn next(&mut self) -> Option<&'a [u8]> {
+        if self.rest.is_empty() {
+            return None;
+        }
+        match line_feed(self.rest) {
+            Some(end) => {
+                let line = without_return(&self.rest[..end]);
+                self.rest = &self.rest[end + 1..];
+                Some(line)
+            }
+            None => {
+                let line = self.rest;
+                self.rest = &[];
+                Some(line)
+            }
+        }
+    }
 }
 
 // Whether each character is `0` or `1`.
@@ -65,11 +86,19 @@ fn is_vector(line: &[u8], width: usize) -> bool
     line.len() == width && are_digits(line)
 }
 
-/// The place of the first line that is no vector.
-pub fn first_no_vector(lines: &[&[u8]], width: usize) -> Option<usize>
-    ensures { result ≡ position (λ line. not (is_vector width line.now)) lines.now }
+/// The number, from 1, of the first line that is no vector.
+pub fn first_no_vector(bytes: &[u8], width: usize) -> Option<u32>
+    requires { length bytes.now ≤ 4000000000 }
+    ensures { FindsNoVector width bytes.now result }
 {
-    lines.iter().position(|line| !is_vector(line, width))
+    let mut number = 1;
+    for line in VectorLines::new(bytes) {
+        if !is_vector(line, width) {
+            return Some(number);
+        }
+        number += 1;
+    }
+    None
 }
 
 /// The bits of a vector.

@@ -4,6 +4,7 @@ ghost use Rattle.act1_frame.specs.Stages.{OnStop};
 ghost use Rattle.act1_top.specs.BlifCommand.{BlifEnds, BlifMayEnd};
 
 use crate::found::netlist_under;
+use act1_base::HashSeed;
 use act1_blif::{Blif, blif_text};
 use act1_frame::{Ending, Stop, with_text};
 use act1_outside::Files;
@@ -22,6 +23,7 @@ fn blif_ends(alloc: Global, net: &Blif) -> Result<Ending, Stop>
 /// The stages of `blif` in their order.
 pub fn blif_ending<F: Files>(
     alloc: Global,
+    seed: HashSeed,
     files: &mut F,
     words: &BlifWords,
 ) -> Result<Ending, Stop>
@@ -29,6 +31,6 @@ pub fn blif_ending<F: Files>(
     ensures err { IfErr result (OnStop (BlifMayEnd words.now (F.seen files.old) (F.seen files.new))) }
     ensures files { OnlyRead (F.seen files.old) (F.seen files.new) }
 {
-    let net = netlist_under(alloc, files, &words.blif)?;
+    let net = netlist_under(alloc, seed, files, &words.blif)?;
     blif_ends(alloc, &net)
 }

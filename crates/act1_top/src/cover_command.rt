@@ -4,6 +4,7 @@ ghost use Rattle.act1_frame.specs.Stages.{OnStop};
 ghost use Rattle.act1_top.specs.CoverCommand.{CoverEnds, CoverMayEnd};
 
 use crate::found::netlist_under;
+use act1_base::HashSeed;
 use act1_blif::Blif;
 use act1_cover::cover_text;
 use act1_frame::{Ending, Stop, with_text};
@@ -23,6 +24,7 @@ fn cover_ends(alloc: Global, net: &Blif) -> Result<Ending, Stop>
 /// The stages of `cover` in their order.
 pub fn cover_ending<F: Files>(
     alloc: Global,
+    seed: HashSeed,
     files: &mut F,
     words: &CoverWords,
 ) -> Result<Ending, Stop>
@@ -30,6 +32,6 @@ pub fn cover_ending<F: Files>(
     ensures err { IfErr result (OnStop (CoverMayEnd words.now (F.seen files.old) (F.seen files.new))) }
     ensures files { OnlyRead (F.seen files.old) (F.seen files.new) }
 {
-    let net = netlist_under(alloc, files, &words.blif)?;
+    let net = netlist_under(alloc, seed, files, &words.blif)?;
     cover_ends(alloc, &net)
 }

@@ -13,7 +13,7 @@ use crate::extract_command::extract_ending;
 use crate::flow_command::flow_ending;
 use crate::search_command::search_ending;
 use crate::sim_command::sim_ending;
-use act1_base::{Memory, write_word};
+use act1_base::{HashSeed, Memory, write_word};
 use act1_frame::{Ending, Stop, with_text};
 use act1_outside::{Files, Helpers};
 use act1_words::{Command, command_of};
@@ -34,6 +34,7 @@ fn usage_ending(alloc: Global) -> Result<Ending, Memory>
 // How the command ends.
 fn ending_of<F: Files, H: Helpers>(
     alloc: Global,
+    seed: HashSeed,
     files: &mut F,
     helpers: &mut H,
     command: &Command,
@@ -46,13 +47,13 @@ fn ending_of<F: Files, H: Helpers>(
 {
     match command {
         Command::Unknown => Ok(usage_ending(alloc)?),
-        Command::Flow(words) => flow_ending(alloc, files, helpers, words),
-        Command::Sim(words) => sim_ending(alloc, files, words),
-        Command::Extract(words) => extract_ending(alloc, files, words),
+        Command::Flow(words) => flow_ending(alloc, seed, files, helpers, words),
+        Command::Sim(words) => sim_ending(alloc, seed, files, words),
+        Command::Extract(words) => extract_ending(alloc, seed, files, words),
         Command::Check(words) => check_ending(alloc, files, words),
         Command::Search(words) => search_ending(alloc, files, words),
-        Command::Cover(words) => cover_ending(alloc, files, words),
-        Command::Blif(words) => blif_ending(alloc, files, words),
+        Command::Cover(words) => cover_ending(alloc, seed, files, words),
+        Command::Blif(words) => blif_ending(alloc, seed, files, words),
         Command::Demo(words) => demo_ending(alloc, files, words),
     }
 }
@@ -61,6 +62,7 @@ fn ending_of<F: Files, H: Helpers>(
 /// printed yet.
 pub fn decide<F: Files, H: Helpers>(
     alloc: Global,
+    seed: HashSeed,
     words: &[String],
     files: &mut F,
     helpers: &mut H,
@@ -70,7 +72,7 @@ pub fn decide<F: Files, H: Helpers>(
     ensures helpers { HelpersAre (command_of (map string_bytes words.now)) (F.seen files.old) (H.seen helpers.old) (H.seen helpers.new) }
 {
     let command = command_of(alloc, words)?;
-    match ending_of(alloc, files, helpers, &command) {
+    match ending_of(alloc, seed, files, helpers, &command) {
         Ok(ending) => Ok(ending),
         Err(Stop::Ends(ending)) => Ok(ending),
         Err(Stop::Memory) => Err(Memory),

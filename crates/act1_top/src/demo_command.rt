@@ -13,7 +13,7 @@ use crate::flow_lines::{
     write_demo_line, write_demo_refuted, write_demo_spent, write_needed, write_vertical,
 };
 use crate::found::device_under;
-use act1_base::{Items, Memory};
+use act1_base::{HashSeed, Items, Memory};
 use act1_blif::Blif;
 use act1_blifread::read_blif;
 use act1_demo::{demo_blif, demo_lines};
@@ -40,7 +40,7 @@ fn demo_net(alloc: Global, bits: u8) -> Result<Blif, Memory>
     if text.len() > MOST_BYTES {
         return Err(Memory);
     }
-    let Ok(net) = read_blif(alloc, &text) else {
+    let Ok(net) = read_blif(alloc, HashSeed::new([0; 16]), &text) else {
         return Err(Memory);
     };
     if net.inputs.len() != 1 {

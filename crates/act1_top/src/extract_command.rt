@@ -6,7 +6,7 @@ ghost use Rattle.act1_top.specs.ExtractCommand.{ExtractEnds, ExtractMayEnd, extr
 
 use crate::flow_lines::write_extracted;
 use crate::found::{device_under, fuses_under};
-use act1_base::{Items, Memory};
+use act1_base::{HashSeed, Items, Memory};
 use act1_blif::{Blif, blif_text};
 use act1_device::Device;
 use act1_extract::{ExtractFault, extract, write_extract_fault};
@@ -64,6 +64,7 @@ fn extract_ends(
 /// The stages of `extract` in their order.
 pub fn extract_ending<F: Files>(
     alloc: Global,
+    seed: HashSeed,
     files: &mut F,
     words: &ExtractWords,
 ) -> Result<Ending, Stop>
@@ -72,6 +73,6 @@ pub fn extract_ending<F: Files>(
     ensures files { OnlyRead (F.seen files.old) (F.seen files.new) }
 {
     let device = device_under(alloc, files, &words.device)?;
-    let file = fuses_under(alloc, files, &device, &words.fuses)?;
+    let file = fuses_under(alloc, seed, files, &device, &words.fuses)?;
     extract_ends(alloc, &device, &file, &words.blif)
 }

@@ -8,7 +8,7 @@ ghost use Rattle.act1_top.specs.FlowCommand.{FlowEnds, FlowMayEnd, IsCause, MayC
 
 use crate::flow_lines::{write_done, write_needed, write_refuted, write_spent, write_vertical};
 use crate::found::{device_under, netlist_under};
-use act1_base::{Items, Memory};
+use act1_base::{HashSeed, Items, Memory};
 use act1_blif::Blif;
 use act1_device::Device;
 use act1_farm::Tally;
@@ -168,6 +168,7 @@ fn flow_ends<H: Helpers>(
 /// The stages of `flow` in their order.
 pub fn flow_ending<F: Files, H: Helpers>(
     alloc: Global,
+    seed: HashSeed,
     files: &mut F,
     helpers: &mut H,
     words: &FlowWords,
@@ -179,6 +180,6 @@ pub fn flow_ending<F: Files, H: Helpers>(
     ensures helpers { MayCall words.now (F.seen files.old) (H.seen helpers.old) (H.seen helpers.new) }
 {
     let device = device_under(alloc, files, &words.device)?;
-    let net = netlist_under(alloc, files, &words.blif)?;
+    let net = netlist_under(alloc, seed, files, &words.blif)?;
     flow_ends(alloc, &device, &net, words, helpers)
 }

@@ -7,7 +7,7 @@ ghost use Rattle.act1_frame.specs.Reading.{Found, AreBytes, OnlyRead};
 ghost use Rattle.act1_frame.specs.Stages.{FileStops, NeverRefused, OnStop};
 ghost use Rattle.act1_top.specs.Files.{most_bytes, file_of, DeviceRefused, NetlistRefused, FusesRefused, JobText, JobRefused, job_fault_words};
 
-use act1_base::{Memory, add_number};
+use act1_base::{HashSeed, Memory, add_number};
 use act1_blif::Blif;
 use act1_blifread::{BlifKind, read_blif};
 use act1_bliftext::write_blif_fault;
@@ -41,12 +41,12 @@ fn device_of(alloc: Global, bytes: &[u8]) -> Result<Device, Stop>
 }
 
 // The netlist that a BLIF file's bytes state.
-fn netlist_of(alloc: Global, bytes: &[u8]) -> Result<Blif, Stop>
+fn netlist_of(alloc: Global, seed: HashSeed, bytes: &[u8]) -> Result<Blif, Stop>
     requires { length bytes.now ≤ 4000000000 }
     ensures ok { IfOk result (BlifText bytes.now) }
     ensures err { IfErr result (OnStop (NetlistRefused bytes.now)) }
 {
-    match read_blif(alloc, bytes) {
+    match read_blif(alloc, seed, bytes) {
         Ok(net) => Ok(net),
         Err(fault) => match fault.kind {
             BlifKind::Memory => Err(Stop::Memory),
@@ -60,12 +60,12 @@ fn netlist_of(alloc: Global, bytes: &[u8]) -> Result<Blif, Stop>
 }
 
 // The antifuse file of a device that the bytes spell.
-fn fuses_of(alloc: Global, device: &Device, bytes: &[u8]) -> Result<FuseFile, Stop>
+fn fuses_of(alloc: Global, seed: HashSeed, device: &Device, bytes: &[u8]) -> Result<FuseFile, Stop>
     requires { length bytes.now ≤ 4000000000 }
     ensures ok { IfOk result (λ file. IsTextOf device.now bytes.now file) }
     ensures err { IfErr result (OnStop (FusesRefused device.now bytes.now)) }
 {
-    match read_fuses(alloc, device, bytes) {
+    match read_fuses(alloc, seed, device, bytes) {
         Ok(file) => Ok(file),
         Err(fault) => {
             if fault.kind == FuseKind::Memory {
@@ -115,13 +115,18 @@ pub fn device_under<F: Files>(alloc: Global, files: &mut F, name: &Word) -> Resu
 }
 
 /// The netlist under a name.
-pub fn netlist_under<F: Files>(alloc: Global, files: &mut F, name: &Word) -> Result<Blif, Stop>
+pub fn netlist_under<F: Files>(
+    alloc: Global,
+    seed: HashSeed,
+    files: &mut F,
+    name: &Word,
+) -> Result<Blif, Stop>
     ensures ok { IfOk result (Found BlifText (F.seen files.old) (file_of name.now)) }
     ensures err { IfErr result (OnStop (FileStops NetlistRefused (F.seen files.old) (F.seen files.new) (file_of name.now))) }
     ensures files { OnlyRead (F.seen files.old) (F.seen files.new) }
 {
     match read(alloc, files, name, MOST_BYTES) {
-        Ok(bytes) => netlist_of(alloc, &bytes),
+        Ok(bytes) => netlist_of(alloc, seed, &bytes),
         Err(stop) => Err(stop),
     }
 }
@@ -129,6 +134,7 @@ pub fn netlist_under<F: Files>(alloc: Global, files: &mut F, name: &Word) -> Res
 /// The antifuse file of a device under a name.
 pub fn fuses_under<F: Files>(
     alloc: Global,
+    seed: HashSeed,
     files: &mut F,
     device: &Device,
     name: &Word,
@@ -138,7 +144,7 @@ pub fn fuses_under<F: Files>(
     ensures files { OnlyRead (F.seen files.old) (F.seen files.new) }
 {
     match read(alloc, files, name, MOST_BYTES) {
-        Ok(bytes) => fuses_of(alloc, device, &bytes),
+        Ok(bytes) => fuses_of(alloc, seed, device, &bytes),
         Err(stop) => Err(stop),
     }
 }

@@ -8,6 +8,7 @@ ghost use Rattle.act1_top.specs.Run.{IsDone, IsVertical, IsRefuted, IsSpent, IsS
 
 use crate::decide::decide;
 use crate::laws::texts_are_one;
+use act1_base::HashSeed;
 use act1_frame::{finish, say_memory};
 use act1_outside::{Files, Helpers, Sink};
 use std::alloc::Global;
@@ -15,9 +16,11 @@ use std::alloc::Global;
 /// Does what the words ask for, and answers the status. `words` are those after the program's name.
 ///
 /// Each line is printed and each file written after all of its text is made. `helpers` are asked by `flow` alone, where the
-/// words have `--jobs` above 0; whatever they answer, no status comes of it that couldn't come without them.
+/// words have `--jobs` above 0; whatever they answer, no status comes of it that couldn't come without them. The tables of names hash by `seed`, which
+/// whoever chooses the names shouldn't know; only how long the run takes depends on it.
 pub fn run<F: Files, S: Sink, H: Helpers>(
     alloc: Global,
+    seed: HashSeed,
     words: &[String],
     files: &mut F,
     out: &mut S,
@@ -56,7 +59,7 @@ pub fn run<F: Files, S: Sink, H: Helpers>(
     ensures helpers { HelpersAre (command_of (map string_bytes words.now)) (F.seen files.old) (H.seen helpers.old) (H.seen helpers.new) }
 {
     texts_are_one();
-    match decide(alloc, words, files, helpers) {
+    match decide(alloc, seed, words, files, helpers) {
         Ok(ending) => finish(alloc, &ending, files, out),
         Err(_) => say_memory(out),
     }

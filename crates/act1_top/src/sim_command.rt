@@ -5,7 +5,7 @@ ghost use Rattle.act1_frame.specs.Stages.{OnStop};
 ghost use Rattle.act1_top.specs.SimCommand.{SimEnds, SimMayEnd, sim_status, sim_refusal};
 
 use crate::found::{bytes_under, device_under, fuses_under};
-use act1_base::Memory;
+use act1_base::{HashSeed, Memory};
 use act1_device::Device;
 use act1_frame::{Ending, Stop, with_text};
 use act1_fuses::FuseFile;
@@ -56,13 +56,18 @@ fn sim_ends(
 }
 
 /// The stages of `sim` in their order.
-pub fn sim_ending<F: Files>(alloc: Global, files: &mut F, words: &SimWords) -> Result<Ending, Stop>
+pub fn sim_ending<F: Files>(
+    alloc: Global,
+    seed: HashSeed,
+    files: &mut F,
+    words: &SimWords,
+) -> Result<Ending, Stop>
     ensures ok { IfOk result (SimMayEnd words.now (F.seen files.old) (F.seen files.new)) }
     ensures err { IfErr result (OnStop (SimMayEnd words.now (F.seen files.old) (F.seen files.new))) }
     ensures files { OnlyRead (F.seen files.old) (F.seen files.new) }
 {
     let device = device_under(alloc, files, &words.device)?;
-    let file = fuses_under(alloc, files, &device, &words.fuses)?;
+    let file = fuses_under(alloc, seed, files, &device, &words.fuses)?;
     let bytes = bytes_under(alloc, files, &words.vectors)?;
     sim_ends(alloc, &device, &file, &bytes, words.fill)
 }

@@ -1,10 +1,14 @@
-use Rattle.std.proofs.Common.{◌≡◌, ◌+◌, map, drop}
-use Rattle.act1_base.specs.Texts.{read_on}
+use Rattle.std.proofs.Common.{◌≡◌, ◌+◌, ◌≤◌, length}
+use Rattle.act1_base.specs.Texts.{read_parts, reading}
+use Rattle.act1_base.proofs.TextReads.{parts_of}
 use Rattle.act1_base.proofs.texts.read_pieces.Given as goal
 
--- the lines to come decide
-abbrev pub invariant-loop-line : goal.invariant-loop-line
-invariant-loop-line g l = record {
-  number : l.number ≡ l.line-index + 1;
-  rest : read_on (g.F.Format.rules l.format) l.state l.number (drop l.line-index (map (λ line. line.now) l.lines)) l.rest ≡ read_on (g.F.Format.rules l.format) (g.F.Format.rules l.format).start 1 (map (λ line. line.now) l.lines) l.rest;
+-- the text to come decides, and its lines are few
+abbrev pub invariant-loop-end : goal.invariant-loop-end
+invariant-loop-end g l = record {
+  few : l.number + length l.rest ≤ length l.bytes + 1;
+  rest : read_parts (g.F.Format.rules l.format) l.state l.number (parts_of l.rest) ≡ reading (g.F.Format.rules l.format) l.bytes;
 }
+
+abbrev pub decreases-loop-end : goal.decreases-loop-end
+decreases-loop-end g l = length l.rest

@@ -1,6 +1,6 @@
 use Rattle.std.proofs.Common.{◌≡◌, drop, map, max}
 use Rattle.act1_device.specs.Sites.{column_of}
-use Rattle.act1_plan.specs.Lists.{greatest_number}
+use Rattle.act1_base.specs.Lists.{greatest_number}
 use Rattle.act1_groute.proofs.connections.greatest_column.Given as goal
 
 -- the greatest so far, and the columns to come

@@ -1,6 +1,6 @@
 use Rattle.std.proofs.Common.{◌≡◌, ◌∷◌, drop, map}
 use Rattle.act1_device.specs.Sites.{column_of}
-use Rattle.act1_plan.specs.Lists.{least_number}
+use Rattle.act1_base.specs.Lists.{least_number}
 use Rattle.act1_groute.proofs.connections.least_column.Given as goal
 
 -- the least so far, and the columns to come

@@ -1,6 +1,6 @@
 use Rattle.std.proofs.Common.{length, map}
 use Rattle.act1_circuit.specs.declared.circuit.Source.TheVariants.{Input}
-use Rattle.act1_plan.specs.Lists.{numbers}
+use Rattle.act1_base.specs.Lists.{numbers}
 use Rattle.act1_groute.proofs.NetSteps.{input_next, module_next}
 use Rattle.act1_groute.proofs.nets.nets_of.Goals as goal
 

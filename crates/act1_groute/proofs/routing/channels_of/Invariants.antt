@@ -1,5 +1,5 @@
 use Rattle.std.proofs.Common.{◌≡◌, map}
-use Rattle.act1_plan.specs.Lists.{numbers}
+use Rattle.act1_base.specs.Lists.{numbers}
 use Rattle.act1_groute.specs.RouteSteps.{wirings_with}
 use Rattle.act1_groute.proofs.routing.channels_of.Given as goal
 

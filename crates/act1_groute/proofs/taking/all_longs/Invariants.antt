@@ -1,6 +1,6 @@
 use Rattle.std.proofs.Common.{◌≡◌, length}
 use Rattle.std.specs.Prelude.{flat_map}
-use Rattle.act1_plan.specs.Lists.{numbers}
+use Rattle.act1_base.specs.Lists.{numbers}
 use Rattle.act1_groute.specs.RouteSteps.{longs_of}
 use Rattle.act1_groute.proofs.taking.all_longs.Given as goal
 

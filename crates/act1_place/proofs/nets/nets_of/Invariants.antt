@@ -1,6 +1,6 @@
 use Rattle.std.proofs.Common.{◌≡◌, ◌++◌, length, map}
 use Rattle.act1_circuit.specs.declared.circuit.Source.TheVariants.{Input, Module}
-use Rattle.act1_plan.specs.Lists.{numbers}
+use Rattle.act1_base.specs.Lists.{numbers}
 use Rattle.act1_place.specs.Kept.{joins_of}
 use Rattle.act1_place.proofs.nets.nets_of.Given as goal
 

@@ -1,11 +1,11 @@
 -- What lists contain that are made of others.
-use Rattle.std.proofs.Common.{ℕ, zero, suc, ◌≡◌, ◌⊎◌, ◌+◌, ◌<◌, ◌≤◌, ◌||◌, nat_le, Bool, true, false, cond, List, [], ◌∷◌, ◌++◌, map, Option, Some, None, refl, sym, ap, subst, ◌∙◌, inl, inr, arith, slice_get, Contains}
+use Rattle.std.proofs.Common.{ℕ, zero, suc, ◌≡◌, ◌⊎◌, ◌+◌, ◌<◌, ◌≤◌, ◌||◌, ◌==◌, Bool, true, false, cond, List, [], ◌∷◌, ◌++◌, map, Option, Some, refl, sym, ap, subst, ◌∙◌, inl, inr, arith, slice_get, Contains}
 use Rattle.std.specs.Prelude.{filter, find, flat_map}
 use Rattle.std.specs.List.{list_any}
 use Rattle.std.proofs.lemmas.Bool.{false≢true, cases_lt}
+use Rattle.std.proofs.lemmas.Bool.Decides.{nat_tests}
 use Rattle.std.proofs.lemmas.List.Elements.{Contains-append_left, Contains-append_right, Contains-append_cases}
-use Rattle.act1_plan.specs.Lists.{numbers, least_number, greatest_number}
-use Rattle.act1_groute.specs.Lists.{lesser, least_by}
+use Rattle.act1_base.specs.Lists.{numbers, least_number, greatest_number}
 
 module _ {X : Type 0} where
   pub here : (x y : X) (xs : List X) → y ≡ x → Contains (y ∷ xs) x
@@ -98,33 +98,6 @@ module _ {X : Type 0} where
       from rec true k = (y, refl)
       from rec false k = rec k
 
-  -- the element that counts least is one of them, and there is one where there are any
-  pub least_in : (f : X → ℕ) (xs : List X) (x : X) → least_by f xs ≡ Some x → Contains xs x
-  least_in f [] x e = cc
-  least_in f (y ∷ ys) x e = from (least_by f ys) (λ z k. least_in f ys z k) e
-    where
-      same_of : {A : Type 0} (a b : A) → Some a ≡ Some b → a ≡ b
-      same_of a b e = cc
-
-      chosen : (z : X) (b : Bool) → Contains ys z → cond b (Some y) (Some z) ≡ Some x → Contains (y ∷ ys) x
-      chosen z true h k = here x y ys (same_of y x k)
-      chosen z false h k = later x y ys (subst (λ (u : X). Contains ys u) (same_of z x k) h)
-
-      from : (o : Option X) → ((z : X) → o ≡ Some z → Contains ys z) → lesser f y o ≡ Some x → Contains (y ∷ ys) x
-      from None h k = here x y ys (same_of y x k)
-      from (Some z) h k = chosen z (nat_le (f y) (f z)) (h z refl) k
-
-  pub least_of_some : (f : X → ℕ) (y : X) (ys : List X) → (x : X) × (least_by f (y ∷ ys) ≡ Some x)
-  least_of_some f y ys = from (least_by f ys)
-    where
-      chosen : (z : X) (b : Bool) → (x : X) × (cond b (Some y) (Some z) ≡ Some x)
-      chosen z true = (y, refl)
-      chosen z false = (z, refl)
-
-      from : (o : Option X) → (x : X) × (lesser f y o ≡ Some x)
-      from None = (y, refl)
-      from (Some z) = chosen z (nat_le (f y) (f z))
-
 module _ {X Y : Type 0} where
   pub in_map : (f : X → Y) (xs : List X) (x : X) → Contains xs x → Contains (map f xs) (f x)
   in_map f [] x h = not_in_none x h
@@ -214,3 +187,27 @@ greatest_is (m ∷ ns) n h = from (λ k. greatest_is ns n k) (first_or_later n m
 pub least_below : (ns : List ℕ) → least_number ns ≤ greatest_number ns
 least_below [] = omega arith
 least_below (m ∷ ns) = let a = least_is (m ∷ ns) m (here m m ns refl) in let b = greatest_is (m ∷ ns) m (here m m ns refl) in omega arith
+
+equal_true : (m n : ℕ) → m ≡ n → (m == n) ≡ true
+equal_true m n e = grind (arith, nat_tests)
+
+true_equal : (m n : ℕ) → (m == n) ≡ true → m ≡ n
+true_equal m n e = grind (arith, nat_tests)
+
+-- a number is among others exactly where they contain it
+pub among_contained : (xs : List ℕ) (n : ℕ) → list_any (λ m. m == n) xs ≡ true → Contains xs n
+among_contained [] n e = absurd (false≢true e)
+among_contained (x ∷ xs) n e = by (x == n) refl (among_contained xs n) e
+  where
+    by : (b : Bool) → (x == n) ≡ b → (list_any (λ m. m == n) xs ≡ true → Contains xs n) → (b || list_any (λ m. m == n) xs) ≡ true → Contains (x ∷ xs) n
+    by true is h e = (0, omega arith, true_equal x n is)
+    by false is h e = let c = h e in let low = c.1 in (suc c.0, omega arith, c.2)
+
+pub contained_among : (xs : List ℕ) (n : ℕ) → Contains xs n → list_any (λ m. m == n) xs ≡ true
+contained_among [] n (k, low, e) = absurd (omega arith)
+contained_among (x ∷ xs) n (zero, low, e) = ap (λ b. b || list_any (λ m. m == n) xs) (equal_true x n e)
+contained_among (x ∷ xs) n (suc k, low, e) = by (x == n) (contained_among xs n (k, omega arith, e))
+  where
+    by : (b : Bool) → list_any (λ m. m == n) xs ≡ true → (b || list_any (λ m. m == n) xs) ≡ true
+    by true e = refl
+    by false e = e

@@ -6,8 +6,8 @@ use Rattle.std.proofs.lemmas.Bool.{eqb-true}
 use Rattle.std.proofs.lemmas.List.{length-map}
 use Rattle.std.proofs.lemmas.List.Elements.{Contains-append_cases}
 use Rattle.std.proofs.lemmas.Map.Steps.{length-le_from_distinct_below}
-use Rattle.act1_plan.specs.Lists.{numbers}
-use Rattle.act1_groute.proofs.Elements.{here, later, first_or_later, filtered, mapped, flattened, number_in, some_of}
+use Rattle.act1_base.specs.Lists.{numbers}
+use Rattle.act1_base.proofs.Elements.{here, later, first_or_later, filtered, mapped, flattened, number_in, some_of}
 
 -- each element differs from all later ones
 abbrev pub Differ : {X : Type 0} → List X → Type 0
