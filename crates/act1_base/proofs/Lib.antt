@@ -1,6 +1,7 @@
 pub mod Distinct
 pub mod Elements
 pub mod FirstFaults
+pub mod FirstPlaces
 pub mod LineCuts
 pub mod LinkAdded
 pub mod ListGets

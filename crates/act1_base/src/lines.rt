@@ -3,6 +3,7 @@ ghost use Rattle.std.specs.List.{position};
 ghost use Rattle.std.specs.Iterator.{YieldsFirstBy, item_count};
 ghost use Rattle.act1_base.specs.Lines.{lines_of};
 
+use crate::place::first_place;
 use std::marker::Model;
 
 /// The lines of a text, in order: the bytes before each line feed and after the one before it,
@@ -34,7 +35,7 @@ impl<'a> Lines<'a> {
 pub fn line_feed(bytes: &[u8]) -> Option<usize>
     ensures { result ≡ position (λ b. b == 10) bytes.now }
 {
-    bytes.iter().position(|b| *b == b'\n')
+    first_place(b'\n', bytes)
 }
 
 impl<'a> Iterator for Lines<'a> {

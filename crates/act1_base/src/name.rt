@@ -1,5 +1,4 @@
-ghost use Rattle.std.specs.Prelude.{◌≡◌, nat_eq, length, IfOk, ◌↔◌, IsTrue};
-ghost use Rattle.std.specs.Hash as fed;
+ghost use Rattle.std.specs.Prelude.{◌≡◌, ◌∷◌, [], nat_eq, length, IfOk, ◌↔◌, IsTrue};
 ghost use Rattle.std.specs.Cmp.Lexicographic.{pointwise, nat_list_eq_equiv};
 ghost use Rattle.std.specs.Cmp.{partial_equiv_from_equiv};
 ghost use Rattle.std.specs.Cmp.Rules.{hashing};
@@ -84,12 +83,13 @@ impl Eq for Name {
     ghost laws = { nat_list_eq_equiv };
 }
 
+// The bytes go to the hasher at once, not one by one behind their number as those of a slice do.
 impl Hash for Name {
-    ghost hash_input = { fed.slice fed.u8 };
+    ghost hash_input = { λ name. name ∷ [] };
 
     ghost respects_eq = { Prim.search (hashing, rules) };
 
     fn hash<H: Hasher>(&self, state: &mut H) {
-        self.as_bytes().hash(state);
+        state.write(self.as_bytes());
     }
 }

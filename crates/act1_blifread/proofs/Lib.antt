@@ -18,6 +18,7 @@ pub mod NetlistParts
 pub mod NodeGraphs
 pub mod NodeLevels
 pub mod NumberLists
+pub mod Renumbered
 pub mod SignalLists
 pub mod SignalUse
 pub mod StatementLists

@@ -26,7 +26,7 @@ fn add_place(out: &mut Vec<u16>, place: Option<u16>) -> Result<(), Memory>
 fn places_among(alloc: Global, places: &[Option<u16>], names: &[u16]) -> Result<Items<u16>, Memory>
     ensures { IfOk result (λ reads. reads ≡ filter_map (place_at places.now) names.now) }
 {
-    let mut reads = Vec::new(alloc);
+    let mut reads = Vec::with_capacity(alloc, names.len())?;
     for name in names {
         add_place(&mut reads, place_at(places, *name))?;
     }

@@ -112,9 +112,17 @@ fn latches_of(
     Ok(latches)
 }
 
-// The node of a `.names`.
+// Puts the numbers of signals in the place of their names.
+fn renumber(numbers: &mut Vec<u16>, places: &[Option<u16>])
+    ensures { numbers.new.items ≡ map (number_at places.now) numbers.old.items }
+{
+    for number in numbers.iter_mut() {
+        *number = number_at(places, *number);
+    }
+}
+
+// The node of a `.names`, whose list of inputs it takes over.
 fn node_of(
-    alloc: Global,
     names: &[Name],
     places: &[Option<u16>],
     inputs: Items<u16>,
@@ -124,8 +132,8 @@ fn node_of(
     requires { output < length names.now }
     ensures { IfOk result (λ node. node ≡ record { name = name_at names.now output; inputs = map (number_at places.now) inputs; cover = cover }) }
 {
-    let mut numbers = Vec::new(alloc);
-    add_numbers(&mut numbers, places, inputs.as_slice())?;
+    let mut numbers = inputs.into_vec();
+    renumber(&mut numbers, places);
     Ok(Node {
         name: name_at(names, output)?,
         inputs: Items::from_vec(numbers),
@@ -135,7 +143,6 @@ fn node_of(
 
 // Adds the node of a `.names`.
 fn add_node(
-    alloc: Global,
     out: &mut Items<Node>,
     names: &[Name],
     places: &[Option<u16>],
@@ -149,7 +156,7 @@ fn add_node(
             inputs,
             output,
             cover,
-        } => out.push(node_of(alloc, names, places, inputs, output, cover)?),
+        } => out.push(node_of(names, places, inputs, output, cover)?),
         Statement::Inputs(_names) => Ok(()),
         Statement::Outputs(_names) => Ok(()),
         Statement::Clock(_names) => Ok(()),
@@ -169,7 +176,7 @@ fn nodes_of(
 {
     let mut nodes = Items::new(alloc);
     for numbered in statements.into_vec() {
-        add_node(alloc, &mut nodes, names, places, numbered.statement)?;
+        add_node(&mut nodes, names, places, numbered.statement)?;
     }
     Ok(nodes)
 }

@@ -1,5 +1,5 @@
 -- Words and lines have no more bytes than their text.
-use Rattle.std.proofs.Common.{ℕ, ◌≡◌, ◌+◌, ◌<◌, ◌≤◌, ◌==◌, ◌&&◌, Bool, true, false, cond, if◌then◌else◌, List, [], ◌∷◌, ◌++◌, length, filter, sum_by, Option, Some, None, Result, Ok, Err, IfOk, refl, ap, arith}
+use Rattle.std.proofs.Common.{ℕ, ◌≡◌, ◌+◌, ◌<◌, ◌≤◌, ◌==◌, ◌&&◌, Bool, true, false, cond, if◌then◌else◌, List, [], ◌∷◌, ◌++◌, length, filter, sum_by, Option, Some, None, Result, Ok, Err, OnOk, refl, ap, arith}
 use Rattle.std.specs.Option.{option_map}
 use Rattle.std.specs.Borrow.{Bor}
 use Rattle.std.specs.List.{slice_split, onto_first, list_all, position_or_len}
@@ -7,8 +7,7 @@ use Rattle.std.proofs.lemmas.List.{length-take}
 use Rattle.std.proofs.lemmas.List.Sums.{sum_by-append, sum_by-cons}
 use Rattle.act1_base.specs.Lines.{lines_of, in_front}
 use Rattle.act1_bliftext.specs.Lines.{is_blank, has_byte, words_of, without_comment, before_backslash}
-use Rattle.act1_bliftext.specs.PlaceSteps.{bytes_of, kept_bytes}
-use Rattle.act1_bliftext.specs.declared.place.Place.{Place}
+use Rattle.act1_bliftext.specs.PlaceSteps.{bytes_of}
 use Rattle.act1_bliftext.specs.declared.fault.BlifFault.{BlifFault}
 
 -- the bytes of all words
@@ -101,9 +100,9 @@ kept_more marks old new code n is few = let more = more_bytes (bytes_of old) (by
 pub le_below : (a b c : ℕ) → a ≤ b → b < c → a < c
 le_below a b c h k = omega arith
 
-pub kept_at_most : (result : Result Place BlifFault) (a b : ℕ) → IfOk result (λ p. kept_bytes p ≤ a) → a ≤ b → IfOk result (λ p. kept_bytes p ≤ b)
-kept_at_most (Ok place) a b h k = let low : kept_bytes place ≤ a = h in omega (arith, low)
-kept_at_most (Err fault) a b h k = tt
+pub kept_at_most : (result : Result (Unit {0}) BlifFault) (kept a b : ℕ) → OnOk result (kept ≤ a) → a ≤ b → OnOk result (kept ≤ b)
+kept_at_most (Ok done) kept a b h k = let low : kept ≤ a = h in omega (arith, low)
+kept_at_most (Err fault) kept a b h k = tt
 
 -- what stands before the backslash of a line has no more bytes than the line
 pub front_line_fits : (line code front : List ℕ) → code ≡ without_comment line → before_backslash code ≡ Some front → length front ≤ length line

@@ -1,5 +1,5 @@
 -- A row.
-use Rattle.std.proofs.Common.{ℕ, ◌≡◌, ◌+◌, ◌-◌, ◌≤◌, ◌||◌, not, Bool, true, false, if◌then◌else◌, ◌⊎◌, inl, inr, List, [], ◌∷◌, ◌++◌, length, map, Option, Some, None, Result, Ok, Err, IfOk, refl, ap, sym, subst, ◌∙◌, arith, length-append}
+use Rattle.std.proofs.Common.{ℕ, ◌≡◌, ◌+◌, ◌-◌, ◌≤◌, ◌||◌, not, Bool, true, false, if◌then◌else◌, ◌⊎◌, inl, inr, List, [], ◌∷◌, ◌++◌, length, map, Option, Some, None, Result, Ok, Err, IfOk, OnOk, refl, ap, sym, subst, ◌∙◌, arith, length-append}
 use Rattle.std.proofs.lemmas.List.{length-map, map-append}
 use Rattle.std.specs.Prelude.{slice_get}
 use Rattle.act1_base.specs.declared.texts.Stop.{Stop}
@@ -12,7 +12,7 @@ use Rattle.act1_bliftext.specs.Rows.{is_row_of, is_one, value_by, marks_by, mark
 use Rattle.act1_bliftext.specs.Tables.{with_names, AreNumbersOf}
 use Rattle.act1_bliftext.specs.Faults.{names_above, has_end, is_byte_fault, is_end_form, is_row_form, fault_of, fits_under, fits_form, head_above, rows_above}
 use Rattle.act1_bliftext.specs.Statements.{AreSaid, earlier_blocks, model_of, marks_in}
-use Rattle.act1_bliftext.specs.ReadingSteps.{IsRead, TakesLine, Stands, IsOpen, OpenSays, RowAdded, RowGives, HasRow, UnderGives, mixes, value_after, takes_rows, is_names_form, open_marks}
+use Rattle.act1_bliftext.specs.ReadingSteps.{left, IsRead, TakesLine, Stands, IsOpen, OpenSays, RowAdded, RowGives, HasRow, UnderGives, mixes, value_after, takes_rows, is_names_form, open_marks}
 use Rattle.act1_bliftext.specs.declared.form.Form.{Form}
 use Rattle.act1_bliftext.specs.declared.form.Form.TheVariants as form
 use Rattle.act1_bliftext.specs.declared.fault.BlifKind.{BlifKind}
@@ -193,6 +193,11 @@ under_marks (Some n) first rest old (Ok new) h =
 under_marks (Some n) first rest old (Err stop) h = tt
 
 -- a row adds no more marks than it has bytes
+-- what holds of a state that was changed in its place
+pub holds_of : {State Stopped : Type 0} (P : State → Type 0) (new : State) (result : Result (Unit {0}) Stopped) → IfOk (left new result) P → OnOk result (P new)
+holds_of P new (Ok done) h = h
+holds_of P new (Err stop) h = tt
+
 pub row_marks_fit : (first : List ℕ) (rest : List (List ℕ)) (old : Reading) (result : Result Reading (Stop BlifKind)) → UnderGives old.open_names first rest old result → IfOk result (λ r. open_marks r.open_names ≤ open_marks old.open_names + length first)
 row_marks_fit first rest old result h = under_marks old.open_names first rest old result h
 

@@ -21,6 +21,11 @@ use Rattle.act1_bliftext.specs.declared.statement.NumberedStatement.{NumberedSta
 use Rattle.act1_bliftext.specs.declared.statement.Statement.{Statement}
 use Rattle.act1_bliftext.specs.declared.statement.Statement.TheVariants as said
 
+-- what a step gives that changes a state in its place: the state after it, or why it stopped
+abbrev pub left : {State Stopped : Type 0} → State → Result (Unit {0}) Stopped → Result State Stopped
+left new (Ok done) = Ok new
+left new (Err stop) = Err stop
+
 -- how many marks rows have
 abbrev pub mark_count : List Row → ℕ
 mark_count rows = sum_by (λ (row : Row). length row.marks) rows

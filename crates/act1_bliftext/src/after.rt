@@ -1,6 +1,6 @@
 ghost use Rattle.std.specs.Prelude.{ℕ, List, ◌≡◌, ◌≤◌, ◌++◌, ◌∷◌, [], true, length, map, IfOk};
 ghost use Rattle.act1_bliftext.specs.LatchSteps.{control_word, bytes_in};
-ghost use Rattle.act1_bliftext.specs.ReadingSteps.{FormGives, IsPort, LatchFollows, NamesFault, form_fault};
+ghost use Rattle.act1_bliftext.specs.ReadingSteps.{FormGives, IsPort, LatchFollows, NamesFault, form_fault, left};
 ghost use Rattle.act1_bliftext.specs.Forms.{model_name};
 ghost use Rattle.act1_bliftext.specs.Statements.{form_in, numbers_in};
 ghost use Rattle.act1_bliftext.specs.declared.form.Form.TheVariants as form;
@@ -41,13 +41,13 @@ fn model_fault(is_later: bool, has_ended: bool, rest: &[&[u8]]) -> Option<BlifKi
     None
 }
 
-/// The reading after a `.model`.
+/// Reads a `.model`.
 pub fn after_model(
     alloc: Global,
-    mut reading: Reading,
+    reading: &mut Reading,
     rest: &[&[u8]],
-) -> Result<Reading, Stop<BlifKind>>
-    ensures { (number : ℕ) → FormGives form.Model number (map (λ w. w.now) rest.now) reading result }
+) -> Result<(), Stop<BlifKind>>
+    ensures { (number : ℕ) → FormGives form.Model number (map (λ w. w.now) rest.now) reading.old (left reading.new result) }
 {
     if let Some(kind) = model_fault(reading.is_later, reading.has_ended, rest) {
         return Err(Stop::Fault(kind));
@@ -55,7 +55,7 @@ pub fn after_model(
     reading.model = model_name(alloc, rest)?;
     reading.open_names = None;
     reading.is_later = true;
-    Ok(reading)
+    Ok(())
 }
 
 // What a line of ports with these numbers of names says.
@@ -72,16 +72,16 @@ fn port_statement(form: Form, numbers: Items<u16>) -> Statement
     }
 }
 
-/// The reading after `.inputs`, `.outputs` or `.clock`.
+/// Reads `.inputs`, `.outputs` or `.clock`.
 pub fn after_ports(
     alloc: Global,
-    mut reading: Reading,
+    reading: &mut Reading,
     form: Form,
     number: u32,
     rest: &[&[u8]],
-) -> Result<Reading, Stop<BlifKind>>
+) -> Result<(), Stop<BlifKind>>
     requires { IsPort form }
-    ensures { FormGives form number (map (λ w. w.now) rest.now) reading result }
+    ensures { FormGives form number (map (λ w. w.now) rest.now) reading.old (left reading.new result) }
 {
     if reading.has_ended {
         return Err(Stop::Fault(BlifKind::After));
@@ -93,7 +93,7 @@ pub fn after_ports(
     })?;
     reading.open_names = None;
     reading.is_later = true;
-    Ok(reading)
+    Ok(())
 }
 
 // A `.names` with these numbers of names, to which rows may come.
@@ -134,14 +134,14 @@ fn names_fault(has_ended: bool, rest: &[&[u8]]) -> Option<BlifKind>
     None
 }
 
-/// The reading after a `.names`.
+/// Reads a `.names`.
 pub fn after_names(
     alloc: Global,
-    mut reading: Reading,
+    reading: &mut Reading,
     number: u32,
     rest: &[&[u8]],
-) -> Result<Reading, Stop<BlifKind>>
-    ensures { FormGives form.Names number (map (λ w. w.now) rest.now) reading result }
+) -> Result<(), Stop<BlifKind>>
+    ensures { FormGives form.Names number (map (λ w. w.now) rest.now) reading.old (left reading.new result) }
 {
     if let Some(kind) = names_fault(reading.has_ended, rest) {
         return Err(Stop::Fault(kind));
@@ -149,20 +149,20 @@ pub fn after_names(
     let numbers = reading.names.add(alloc, rest)?;
     reading.open_names = Some(open_names(alloc, number, numbers));
     reading.is_later = true;
-    Ok(reading)
+    Ok(())
 }
 
-// The reading after a latch of these names and this init.
+// Reads a latch of these names and this init.
 fn with_latch(
     alloc: Global,
-    mut reading: Reading,
+    reading: &mut Reading,
     number: u32,
     input: &[u8],
     output: &[u8],
     control: Option<&[u8]>,
     init: u8,
-) -> Result<Reading, Stop<BlifKind>>
-    ensures { LatchFollows number (input.now ∷ output.now ∷ control_word (bytes_in control.entry)) init reading result }
+) -> Result<(), Stop<BlifKind>>
+    ensures { LatchFollows number (input.now ∷ output.now ∷ control_word (bytes_in control.entry)) init reading.old (left reading.new result) }
 {
     if reading.has_ended {
         return Err(Stop::Fault(BlifKind::After));
@@ -174,19 +174,19 @@ fn with_latch(
     })?;
     reading.open_names = None;
     reading.is_later = true;
-    Ok(reading)
+    Ok(())
 }
 
-// The reading after a latch of these words.
+// Reads a latch of these words.
 fn after_latch_words(
     alloc: Global,
-    reading: Reading,
+    reading: &mut Reading,
     number: u32,
     input: &[u8],
     output: &[u8],
     more: &[&[u8]],
-) -> Result<Reading, Stop<BlifKind>>
-    ensures { FormGives form.Latch number (input.now ∷ output.now ∷ map (λ w. w.now) more.now) reading result }
+) -> Result<(), Stop<BlifKind>>
+    ensures { FormGives form.Latch number (input.now ∷ output.now ∷ map (λ w. w.now) more.now) reading.old (left reading.new result) }
 {
     match latch_rest(more) {
         Ok((control, init)) => with_latch(alloc, reading, number, input, output, control, init),
@@ -194,14 +194,14 @@ fn after_latch_words(
     }
 }
 
-/// The reading after a `.latch`.
+/// Reads a `.latch`.
 pub fn after_latch(
     alloc: Global,
-    reading: Reading,
+    reading: &mut Reading,
     number: u32,
     rest: &[&[u8]],
-) -> Result<Reading, Stop<BlifKind>>
-    ensures { FormGives form.Latch number (map (λ w. w.now) rest.now) reading result }
+) -> Result<(), Stop<BlifKind>>
+    ensures { FormGives form.Latch number (map (λ w. w.now) rest.now) reading.old (left reading.new result) }
 {
     match rest {
         [input, output, more @ ..] => {
@@ -211,9 +211,9 @@ pub fn after_latch(
     }
 }
 
-/// The reading after an `.end`.
-pub fn after_end(mut reading: Reading, rest: &[&[u8]]) -> Result<Reading, Stop<BlifKind>>
-    ensures { (number : ℕ) → FormGives form.End number (map (λ w. w.now) rest.now) reading result }
+/// Reads an `.end`.
+pub fn after_end(reading: &mut Reading, rest: &[&[u8]]) -> Result<(), Stop<BlifKind>>
+    ensures { (number : ℕ) → FormGives form.End number (map (λ w. w.now) rest.now) reading.old (left reading.new result) }
 {
     if !rest.is_empty() {
         return Err(Stop::Fault(BlifKind::Shape));
@@ -224,5 +224,5 @@ pub fn after_end(mut reading: Reading, rest: &[&[u8]]) -> Result<Reading, Stop<B
     reading.open_names = None;
     reading.is_later = true;
     reading.has_ended = true;
-    Ok(reading)
+    Ok(())
 }

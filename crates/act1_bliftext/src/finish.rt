@@ -10,21 +10,22 @@ use crate::fault::BlifFault;
 use crate::read::read_lines;
 use crate::reading::Reading;
 use crate::statements::Statements;
-use crate::step::closed;
+use crate::step::close;
 use act1_base::{HashSeed, Memory};
 use std::alloc::Global;
 
 // What a whole text says.
-fn statements_of(alloc: Global, reading: Reading) -> Result<Statements, Memory>
+fn statements_of(alloc: Global, mut reading: Reading) -> Result<Statements, Memory>
     requires { IsWhole reading }
     ensures { (above : List Line) → IsRead above reading → IfOk result (λ s. Say above s.model s.names s.statements) }
 {
+    close(&mut reading)?;
     let Reading {
         model,
         names,
         statements,
         ..
-    } = closed(reading)?;
+    } = reading;
     Ok(Statements {
         model,
         names: names.into_items(alloc)?,

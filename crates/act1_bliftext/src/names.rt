@@ -1,4 +1,4 @@
-ghost use Rattle.std.specs.Prelude.{◌≡◌, [], nat_eq, map, IfOk};
+ghost use Rattle.std.specs.Prelude.{◌≡◌, [], ◌∷◌, nat_eq, map, IfOk};
 ghost use Rattle.std.specs.Cmp.Lexicographic.{pointwise, nat_list_eq_equiv};
 ghost use Rattle.std.specs.Cmp.Rules.{hashing};
 ghost use Rattle.std.proofs.Common.{rules};
@@ -9,13 +9,24 @@ use crate::forms::has_long;
 use act1_base::{HashSeed, Items, Memory, Name, Stop};
 use indexmap::{Equivalent, IndexSet};
 use std::alloc::Global;
-use std::hash::Hash;
+use std::hash::{Hash, Hasher};
 use std::marker::Model;
 
 // A word by whose bytes a name is looked up, so that no name is made of a word whose name is there.
-#[derive(Clone, Copy, PartialEq, Eq, Hash)]
+#[derive(Clone, Copy, PartialEq, Eq)]
 struct Word<'a> {
     bytes: &'a [u8],
+}
+
+// As a name is hashed.
+impl<'a> Hash for Word<'a> {
+    ghost hash_input = { λ word. word.bytes.now ∷ [] };
+
+    ghost respects_eq = { Prim.search (hashing, rules) };
+
+    fn hash<H: Hasher>(&self, state: &mut H) {
+        state.write(self.bytes);
+    }
 }
 
 impl<'a> Equivalent<Name> for Word<'a> {
@@ -77,12 +88,12 @@ impl Names {
         ensures { NumbersAll self.old (map (λ w. w.now) words.now) self.new result }
     {
         let _ = &self.set;
-        let mut numbers = Items::new(alloc);
+        let mut numbers = Vec::with_capacity(alloc, words.len())?;
         for word in words {
             let number = self.number(alloc, word)?;
-            numbers.push(number)?;
+            numbers.push_reserved(number);
         }
-        Ok(numbers)
+        Ok(Items::from_vec(numbers))
     }
 
     /// The numbers of the names that a line uses. `Limit` comes where a name is too long, and where the

@@ -1,8 +1,8 @@
-ghost use Rattle.std.specs.Prelude.{ℕ, List, ◌≡◌, ◌≢◌, ◌+◌, ◌<◌, ◌≤◌, ◌^◌, ◌∷◌, [], length, sum_by, IfOk, IfErr};
+ghost use Rattle.std.specs.Prelude.{ℕ, List, ◌≡◌, ◌≢◌, ◌+◌, ◌<◌, ◌≤◌, ◌^◌, ◌∷◌, [], length, sum_by, OnOk};
 ghost use Rattle.act1_base.specs.Lines.{lines_of};
 ghost use Rattle.act1_bliftext.specs.Lines.{Line, line_of, text_lines};
 ghost use Rattle.act1_bliftext.specs.PlaceSteps.{AllGives, IsEnd, IsPlace, StepGives, TakesLines, bytes_of, kept_bytes};
-ghost use Rattle.act1_bliftext.specs.ReadingSteps.{IsRead, open_marks};
+ghost use Rattle.act1_bliftext.specs.ReadingSteps.{IsRead, left, open_marks};
 
 use crate::fault::{BlifFault, BlifKind};
 use crate::names::Names;
@@ -14,20 +14,20 @@ use act1_base::{HashSeed, Items, Lines, Stop};
 use smallvec::SmallVec;
 use std::alloc::Global;
 
-// The reading after a line with words.
+// Reads a line with words.
 fn take_line(
     alloc: Global,
-    reading: Reading,
+    reading: &mut Reading,
     number: u32,
     first: &[u8],
     rest: &[&[u8]],
-) -> Result<Reading, BlifFault>
-    requires { open_marks reading.open_names + length first.now < 2 ^ 32 }
-    ensures takes { (above : List Line) → IsRead above reading → TakesLines above (record { number = number; first = first.now; rest = bytes_of rest.now } ∷ []) result }
-    ensures marks { IfOk result (λ r. open_marks r.open_names ≤ open_marks reading.open_names + length first.now) }
+) -> Result<(), BlifFault>
+    requires { open_marks reading.old.open_names + length first.now < 2 ^ 32 }
+    ensures takes { (above : List Line) → IsRead above reading.old → TakesLines above (record { number = number; first = first.now; rest = bytes_of rest.now } ∷ []) (left reading.new result) }
+    ensures marks { OnOk result (open_marks reading.new.open_names ≤ open_marks reading.old.open_names + length first.now) }
 {
     match after_line(alloc, reading, number, first, rest) {
-        Ok(next) => Ok(next),
+        Ok(()) => Ok(()),
         Err(Stop::Fault(kind)) => Err(BlifFault { line: number, kind }),
         Err(Stop::Memory) => Err(BlifFault {
             line: 0,
@@ -36,64 +36,55 @@ fn take_line(
     }
 }
 
-// The reading after a joined line of these words, which is skipped where there are none.
+// Reads a joined line of these words, which is skipped where there are none.
 fn take_words(
     alloc: Global,
-    reading: Reading,
+    reading: &mut Reading,
     number: u32,
     words: &[&[u8]],
-) -> Result<Reading, BlifFault>
-    requires { open_marks reading.open_names + sum_by length (bytes_of words.now) < 2 ^ 32 }
-    ensures takes { (above : List Line) → IsRead above reading → TakesLines above (line_of number (bytes_of words.now)) result }
-    ensures marks { IfOk result (λ r. open_marks r.open_names ≤ open_marks reading.open_names + sum_by length (bytes_of words.now)) }
+) -> Result<(), BlifFault>
+    requires { open_marks reading.old.open_names + sum_by length (bytes_of words.now) < 2 ^ 32 }
+    ensures takes { (above : List Line) → IsRead above reading.old → TakesLines above (line_of number (bytes_of words.now)) (left reading.new result) }
+    ensures marks { OnOk result (open_marks reading.new.open_names ≤ open_marks reading.old.open_names + sum_by length (bytes_of words.now)) }
 {
     match words {
         [first, rest @ ..] => take_line(alloc, reading, number, first, rest),
-        [] => Ok(reading),
+        [] => Ok(()),
     }
 }
 
-// The place behind a joined line that has ended.
-fn end_line<'a>(alloc: Global, place: Place<'a>) -> Result<Place<'a>, BlifFault>
-    requires { kept_bytes place < 2 ^ 32 }
-    ensures goes { (all : List Line) (raws : List (List ℕ)) → IsEnd all raws place.entry → StepGives all raws result }
-    ensures kept { IfOk result (λ p. kept_bytes p ≤ kept_bytes place.entry) }
-    ensures number { IfOk result (λ p. p.number ≡ place.entry.number) }
+// Goes behind a joined line that has ended.
+fn end_line(alloc: Global, place: &mut Place) -> Result<(), BlifFault>
+    requires { kept_bytes place.old < 2 ^ 32 }
+    ensures goes { (all : List Line) (raws : List (List ℕ)) → IsEnd all raws place.old → StepGives all raws (left place.new result) }
+    ensures kept { OnOk result (kept_bytes place.new ≤ kept_bytes place.old) }
+    ensures number { OnOk result (place.new.number ≡ place.old.number) }
 {
-    let Place {
-        reading,
-        mut words,
-        first,
-        number,
-    } = place;
-    let reading = take_words(alloc, reading, first, words.as_slice())?;
-    words.clear();
-    Ok(Place {
-        reading,
-        words,
-        first: number,
-        number,
-    })
+    take_words(
+        alloc,
+        &mut place.reading,
+        place.first,
+        place.words.as_slice(),
+    )?;
+    place.words.clear();
+    place.first = place.number;
+    Ok(())
 }
 
-// The place behind one more line.
-fn next_line<'a>(
-    alloc: Global,
-    mut place: Place<'a>,
-    line: &'a [u8],
-) -> Result<Place<'a>, BlifFault>
-    requires few { kept_bytes place + length line.now < 2 ^ 32 }
-    requires number { place.number + 1 < 2 ^ 32 }
-    ensures goes { (all : List Line) (raws : List (List ℕ)) → IsPlace all (line.entry.now ∷ raws) place.entry → StepGives all raws result }
-    ensures kept { IfOk result (λ p. kept_bytes p ≤ kept_bytes place.entry + length line.entry.now) }
-    ensures number { IfOk result (λ p. p.number ≡ place.entry.number + 1) }
+// Goes behind one more line.
+fn next_line<'a>(alloc: Global, place: &mut Place<'a>, line: &'a [u8]) -> Result<(), BlifFault>
+    requires few { kept_bytes place.old + length line.now < 2 ^ 32 }
+    requires number { place.old.number + 1 < 2 ^ 32 }
+    ensures goes { (all : List Line) (raws : List (List ℕ)) → IsPlace all (line.entry.now ∷ raws) place.old → StepGives all raws (left place.new result) }
+    ensures kept { OnOk result (kept_bytes place.new ≤ kept_bytes place.old + length line.entry.now) }
+    ensures number { OnOk result (place.new.number ≡ place.old.number + 1) }
 {
     let code = without_comment(line);
     match before_backslash(code) {
         Some(front) => {
             add_words(&mut place.words, front)?;
             place.number += 1;
-            Ok(place)
+            Ok(())
         }
         None => {
             add_words(&mut place.words, code)?;
@@ -134,13 +125,14 @@ pub fn read_lines(alloc: Global, seed: HashSeed, bytes: &[u8]) -> Result<Reading
 {
     let mut place = start(alloc, seed);
     for line in Lines::new(bytes) {
-        place = next_line(alloc, place, line)?;
+        next_line(alloc, &mut place, line)?;
     }
     let Place {
-        reading,
+        mut reading,
         words,
         first,
         ..
     } = place;
-    take_words(alloc, reading, first, words.as_slice())
+    take_words(alloc, &mut reading, first, words.as_slice())?;
+    Ok(reading)
 }

@@ -1,4 +1,4 @@
-ghost use Rattle.std.specs.Prelude.{◌≡◌, ◌+◌, ◌<◌, ◌^◌, length, map, IfOk};
+ghost use Rattle.std.specs.Prelude.{◌≡◌, ◌+◌, ◌++◌, ◌∷◌, [], ◌<◌, ◌≤◌, ◌^◌, length, map, IfOk};
 ghost use Rattle.std.specs.List.{list_all};
 ghost use Rattle.act1_bliftext.specs.Rows.{is_mark, mark_of, is_value, is_one, are_parts, differ};
 ghost use Rattle.act1_bliftext.specs.ReadingSteps.{RowGives, PartsGive, HasRow, mark_count, mixes};
@@ -7,8 +7,8 @@ use crate::fault::BlifKind;
 use crate::forms::is;
 use crate::open_names::OpenNames;
 use act1_base::{Items, Memory, Stop};
-use act1_logic::{Mark, Row};
-use std::alloc::{AllocError, Global};
+use act1_logic::{Mark, Marks, Row};
+use std::alloc::Global;
 
 // Whether each byte is a mark.
 fn are_marks(word: &[u8]) -> bool
@@ -31,10 +31,15 @@ fn mark_of(b: u8) -> Mark
 }
 
 // The marks of a word.
-fn marks_of(alloc: Global, word: &[u8]) -> Result<Vec<Mark>, AllocError>
-    ensures { IfOk result (λ marks. marks.items ≡ map mark_of word.now) }
+fn marks_of(alloc: Global, word: &[u8]) -> Result<Marks, Memory>
+    requires { length word.now ≤ 64 }
+    ensures { IfOk result (λ marks. marks ≡ map mark_of word.now) }
 {
-    word.iter().map(|b| mark_of(*b)).collect(alloc)
+    let mut marks = [Mark::Dash; 64];
+    for (place, b) in word.iter().enumerate() {
+        marks[place] = mark_of(*b);
+    }
+    Marks::from_slice(alloc, &marks[..word.len()])
 }
 
 // Whether a word is an output character.
@@ -75,6 +80,18 @@ fn mixes(rows: &Items<Row>, value: bool, more: bool) -> bool
     }
 }
 
+// The rows and one more. Many a `.names` has a single row, so the first takes no room for others.
+fn one_row_more(rows: Items<Row>, row: Row) -> Result<Items<Row>, Memory>
+    ensures { IfOk result (λ more. more ≡ rows ++ row ∷ []) }
+{
+    let mut rows = rows.into_vec();
+    if rows.is_empty() {
+        rows.reserve_exact(1)?;
+    }
+    rows.push(row)?;
+    Ok(Items::from_vec(rows))
+}
+
 // The `.names` with one row more.
 fn with_row(names: OpenNames, row: Row, more: bool) -> Result<OpenNames, Memory>
     requires marks { length row.marks ≡ length names.inputs }
@@ -86,17 +103,16 @@ fn with_row(names: OpenNames, row: Row, more: bool) -> Result<OpenNames, Memory>
         inputs,
         output,
         value,
-        mut rows,
+        rows,
         ..
     } = names;
     let value = if rows.is_empty() { more } else { value };
-    rows.push(row)?;
     Ok(OpenNames {
         line,
         inputs,
         output,
         value,
-        rows,
+        rows: one_row_more(rows, row)?,
     })
 }
 
@@ -118,7 +134,7 @@ fn with_parts(
         return Err(Stop::Fault(BlifKind::Mixed));
     }
     let row = Row {
-        marks: Items::from_vec(marks_of(alloc, marks)?),
+        marks: marks_of(alloc, marks)?,
     };
     Ok(with_row(names, row, more)?)
 }

@@ -1,6 +1,6 @@
-ghost use Rattle.std.specs.Prelude.{ℕ, List, ◌≡◌, ◌+◌, ◌<◌, ◌≤◌, ◌^◌, length, map, IfOk};
+ghost use Rattle.std.specs.Prelude.{ℕ, List, ◌≡◌, ◌+◌, ◌<◌, ◌≤◌, ◌^◌, length, map, OnOk};
 ghost use Rattle.act1_bliftext.specs.Lines.{Line};
-ghost use Rattle.act1_bliftext.specs.ReadingSteps.{FormGives, IsClosed, IsNames, IsRead, IsNoRow, TakesLine, UnderGives, open_marks};
+ghost use Rattle.act1_bliftext.specs.ReadingSteps.{FormGives, IsClosed, IsNames, IsRead, IsNoRow, TakesLine, UnderGives, left, open_marks};
 
 use crate::after::{after_end, after_latch, after_model, after_names, after_ports};
 use crate::fault::BlifKind;
@@ -42,72 +42,44 @@ fn statement_of(names: OpenNames) -> NumberedStatement
     }
 }
 
-/// The reading where no row may come any more.
-pub fn closed(reading: Reading) -> Result<Reading, Memory>
-    ensures { IfOk result (IsClosed reading) }
+/// Adds what an open `.names` says, so that no row may come any more.
+pub fn close(reading: &mut Reading) -> Result<(), Memory>
+    ensures { OnOk result (IsClosed reading.old reading.new) }
 {
-    let Reading {
-        model,
-        names,
-        mut statements,
-        open_names,
-        is_later,
-        has_ended,
-    } = reading;
-    if let Some(names) = open_names {
-        statements.push(statement_of(names))?;
+    if let Some(names) = reading.open_names.take() {
+        reading.statements.push(statement_of(names))?;
     }
-    Ok(Reading {
-        model,
-        names,
-        statements,
-        open_names: None,
-        is_later,
-        has_ended,
-    })
+    Ok(())
 }
 
-// The reading after a row.
+// Reads a row.
 fn after_row(
     alloc: Global,
-    reading: Reading,
+    reading: &mut Reading,
     first: &[u8],
     rest: &[&[u8]],
-) -> Result<Reading, Stop<BlifKind>>
-    requires { open_marks reading.open_names + length first.now < 2 ^ 32 }
-    ensures { UnderGives reading.open_names first.now (map (λ w. w.now) rest.now) reading result }
+) -> Result<(), Stop<BlifKind>>
+    requires { open_marks reading.old.open_names + length first.now < 2 ^ 32 }
+    ensures { UnderGives reading.old.open_names first.now (map (λ w. w.now) rest.now) reading.old (left reading.new result) }
 {
-    let Reading {
-        model,
-        names,
-        statements,
-        open_names,
-        has_ended,
-        ..
-    } = reading;
-    let Some(open_names) = open_names else {
+    let Some(open_names) = reading.open_names.take() else {
         return Err(Stop::Fault(BlifKind::Row));
     };
-    Ok(Reading {
-        model,
-        names,
-        statements,
-        open_names: Some(row_under(alloc, open_names, first, rest)?),
-        is_later: true,
-        has_ended,
-    })
+    reading.open_names = Some(row_under(alloc, open_names, first, rest)?);
+    reading.is_later = true;
+    Ok(())
 }
 
-// The reading after a line that is no row.
+// Reads a line that is no row.
 fn after_form(
     alloc: Global,
-    reading: Reading,
+    reading: &mut Reading,
     form: Form,
     number: u32,
     rest: &[&[u8]],
-) -> Result<Reading, Stop<BlifKind>>
+) -> Result<(), Stop<BlifKind>>
     requires { IsNoRow form }
-    ensures { FormGives form number (map (λ w. w.now) rest.now) reading result }
+    ensures { FormGives form number (map (λ w. w.now) rest.now) reading.old (left reading.new result) }
 {
     match form {
         Form::Model => after_model(alloc, reading, rest),
@@ -122,23 +94,26 @@ fn after_form(
     }
 }
 
-/// The reading after a line with words, or the first kind of fault that the line has.
+/// Reads a line with words, or finds the first kind of fault that the line has.
 pub fn after_line(
     alloc: Global,
-    reading: Reading,
+    reading: &mut Reading,
     number: u32,
     first: &[u8],
     rest: &[&[u8]],
-) -> Result<Reading, Stop<BlifKind>>
-    requires { open_marks reading.open_names + length first.now < 2 ^ 32 }
-    ensures takes { (above : List Line) → IsRead above reading → TakesLine above (record { number = number; first = first.now; rest = map (λ w. w.now) rest.now }) result }
-    ensures marks { IfOk result (λ r. open_marks r.open_names ≤ open_marks reading.open_names + length first.now) }
+) -> Result<(), Stop<BlifKind>>
+    requires { open_marks reading.old.open_names + length first.now < 2 ^ 32 }
+    ensures takes { (above : List Line) → IsRead above reading.old → TakesLine above (record { number = number; first = first.now; rest = map (λ w. w.now) rest.now }) (left reading.new result) }
+    ensures marks { OnOk result (open_marks reading.new.open_names ≤ open_marks reading.old.open_names + length first.now) }
 {
     if is_byte_fault(first, rest) {
         return Err(Stop::Fault(BlifKind::Byte));
     }
     match form_of(first) {
         Form::Row => after_row(alloc, reading, first, rest),
-        form => after_form(alloc, closed(reading)?, form, number, rest),
+        form => {
+            close(reading)?;
+            after_form(alloc, reading, form, number, rest)
+        }
     }
 }

@@ -1,8 +1,8 @@
-ghost use Rattle.std.specs.Prelude.{◌≡◌, ◌==◌, ◌++◌, [], map, OnOk};
+ghost use Rattle.std.specs.Prelude.{◌≡◌, ◌++◌, [], map, OnOk};
 ghost use Rattle.std.specs.Option.{option_map};
-ghost use Rattle.std.specs.List.{position};
 ghost use Rattle.act1_bliftext.specs.Lines.{is_blank, without_comment, before_backslash, words_of, word_before};
 
+use act1_base::first_place;
 use smallvec::SmallVec;
 use std::alloc::AllocError;
 
@@ -13,18 +13,11 @@ fn is_blank(b: u8) -> bool
     b == b' ' || b == b'\t' || b == b'\r'
 }
 
-// The place of the first `#`.
-fn comment_start(line: &[u8]) -> Option<usize>
-    ensures { result ≡ position (λ b. b == 35) line.now }
-{
-    line.iter().position(|b| *b == b'#')
-}
-
 /// A line without its comment.
 pub fn without_comment(line: &[u8]) -> &[u8]
     ensures { result.now ≡ without_comment line.now }
 {
-    match comment_start(line) {
+    match first_place(b'#', line) {
         Some(start) => &line[..start],
         None => line,
     }

@@ -15,7 +15,8 @@ use Rattle.act1_plan.specs.Nets.{is_same_source}
 use Rattle.act1_groute.specs.declared.net.Sink.{Sink}
 use Rattle.act1_groute.specs.Nets.{sinks}
 use Rattle.act1_base.proofs.Elements.{any_of, some_of}
-use Rattle.act1_groute.proofs.SinkFacts.{same_source_is, source_is_itself, pin_sink, output_sink, pin_is_sink, output_is_sink}
+use Rattle.act1_groute.proofs.SinkFacts.{pin_sink, output_sink, pin_is_sink, output_is_sink}
+use Rattle.act1_plan.proofs.SourceFacts.{same_source_is, source_is_itself}
 use Rattle.act1_emit.specs.Drivers.{drives_pin, is_driver}
 
 -- a module that is the source of a pin drives something

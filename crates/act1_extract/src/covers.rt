@@ -8,7 +8,7 @@ ghost use Rattle.act1_extract.specs.Parts.{constant_of, marks_in};
 use crate::values::module_in;
 use act1_base::{Items, Memory};
 use act1_circuit::Source;
-use act1_logic::{Cover, Mark, Row};
+use act1_logic::{Cover, Mark, Marks, Row};
 use std::alloc::Global;
 
 // Bits with another in front.
@@ -69,13 +69,11 @@ fn mark_of(bit: bool) -> Mark
 fn row_of(alloc: Global, bits: &[bool]) -> Result<Row, Memory>
     ensures { IfOk result (λ row. row.marks ≡ map mark_of bits.now) }
 {
-    let mut marks = Vec::new(alloc);
+    let mut marks = Marks::new(alloc);
     for bit in bits {
         marks.push(mark_of(*bit))?;
     }
-    Ok(Row {
-        marks: Items::from_vec(marks),
-    })
+    Ok(Row { marks })
 }
 
 // Adds the row of these bits, if the module gives 1 at them.

@@ -18,7 +18,7 @@ use Rattle.act1_groute.specs.Nets.{is_same_source, nets, source_line, out_line, 
 use Rattle.act1_groute.specs.Routes.{LongWire, long_line, Demand, Take, wire_of, demands, own, nearest, distance, all_longs, is_taken, candidates, home_of, least_candidate, is_served, with_candidate, take_for, and_on, take_all}
 use Rattle.act1_base.proofs.Elements.{in_filter, filtered, any_of, some_of, in_map, mapped, in_flat, flattened, in_numbers, number_in, first_or_later, here, later, not_in_none}
 use Rattle.act1_groute.proofs.LeastElements.{least_in}
-use Rattle.act1_groute.proofs.SinkFacts.{same_source_is, source_is_itself}
+use Rattle.act1_plan.proofs.SourceFacts.{same_source_is, source_is_itself}
 
 -- the line covers what lies between its ends
 pub covers_from : (dev : Device) (l : Line) (h : ℕ) → lowest dev l ≤ h → h ≤ highest dev l → covers dev l h ≡ true

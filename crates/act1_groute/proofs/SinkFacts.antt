@@ -1,6 +1,6 @@
 -- What the sinks of a plan are, and that no line is that of two of them.
 use Rattle.std.proofs.Common.{ℕ, zero, suc, ◌≡◌, ◌⊎◌, ◌+◌, ◌<◌, Bool, true, false, List, [], ◌∷◌, length, Some, refl, sym, ap, subst, ◌∙◌, inl, inr, arith, slice_get, Contains}
-use Rattle.std.proofs.lemmas.Bool.{eqb-true, eq-eqb, false≢true}
+use Rattle.std.proofs.lemmas.Bool.{false≢true}
 use Rattle.std.proofs.lemmas.List.Elements.{Contains-append_left, Contains-append_right, Contains-append_cases}
 use Rattle.act1_base.specs.Rising.{Rises}
 use Rattle.act1_base.proofs.ListGets.{some_is}
@@ -10,48 +10,12 @@ use Rattle.act1_device.specs.declared.device.Line.TheVariants as line
 use Rattle.act1_device.specs.Sites.{pin_channel, pad_at}
 use Rattle.act1_circuit.specs.declared.circuit.Output.{Output}
 use Rattle.act1_circuit.specs.declared.circuit.Source.{Source}
-use Rattle.act1_circuit.specs.declared.circuit.Source.TheVariants.{Zero, One, Clock, Input, Module}
 use Rattle.act1_circuit.specs.declared.circuit.Spot.{Spot}
 use Rattle.act1_circuit.specs.Spots.{SpotIsBefore}
 use Rattle.act1_plan.specs.declared.plan.Plan.{Plan}
 use Rattle.act1_plan.specs.Legal.{Legal}
-use Rattle.act1_groute.specs.Nets.{is_same_source, Sink, pin_sinks, module_sinks, output_sinks, sinks}
+use Rattle.act1_groute.specs.Nets.{Sink, pin_sinks, module_sinks, output_sinks, sinks}
 use Rattle.act1_base.proofs.Elements.{here, later, first_or_later, not_in_none}
-
--- the test of sources
-pub same_source_is : (a b : Source) → is_same_source a b ≡ true → a ≡ b
-same_source_is Zero Zero h = refl
-same_source_is Zero One h = absurd (false≢true h)
-same_source_is Zero Clock h = absurd (false≢true h)
-same_source_is Zero (Input j) h = absurd (false≢true h)
-same_source_is Zero (Module j) h = absurd (false≢true h)
-same_source_is One Zero h = absurd (false≢true h)
-same_source_is One One h = refl
-same_source_is One Clock h = absurd (false≢true h)
-same_source_is One (Input j) h = absurd (false≢true h)
-same_source_is One (Module j) h = absurd (false≢true h)
-same_source_is Clock Zero h = absurd (false≢true h)
-same_source_is Clock One h = absurd (false≢true h)
-same_source_is Clock Clock h = refl
-same_source_is Clock (Input j) h = absurd (false≢true h)
-same_source_is Clock (Module j) h = absurd (false≢true h)
-same_source_is (Input i) Zero h = absurd (false≢true h)
-same_source_is (Input i) One h = absurd (false≢true h)
-same_source_is (Input i) Clock h = absurd (false≢true h)
-same_source_is (Input i) (Input j) h = ap Input (eqb-true i j h)
-same_source_is (Input i) (Module j) h = absurd (false≢true h)
-same_source_is (Module i) Zero h = absurd (false≢true h)
-same_source_is (Module i) One h = absurd (false≢true h)
-same_source_is (Module i) Clock h = absurd (false≢true h)
-same_source_is (Module i) (Input j) h = absurd (false≢true h)
-same_source_is (Module i) (Module j) h = ap Module (eqb-true i j h)
-
-pub source_is_itself : (a : Source) → is_same_source a a ≡ true
-source_is_itself Zero = refl
-source_is_itself One = refl
-source_is_itself Clock = refl
-source_is_itself (Input i) = eq-eqb i i refl
-source_is_itself (Module m) = eq-eqb m m refl
 
 -- the sink of a pin, and of an output
 abbrev pub pin_sink : Device → Spot → ℕ → Source → Sink

@@ -16,7 +16,7 @@ use Rattle.act1_base.specs.Lists.{numbers}
 use Rattle.act1_groute.specs.Nets.{is_same_source, Sink, sinks, nets, source_line, covers, is_sink_of, sink_lines, is_needed, channels}
 use Rattle.act1_groute.specs.Routes.{Take, wire_of, own, lines_in, has_connection, wiring_of, wirings}
 use Rattle.act1_base.proofs.Elements.{in_filter, filtered, any_of, finds, found, in_map, mapped, first_or_later, here, later, not_in_none, numbers_get, least_is, greatest_is}
-use Rattle.act1_groute.proofs.SinkFacts.{same_source_is, source_is_itself}
+use Rattle.act1_plan.proofs.SourceFacts.{same_source_is, source_is_itself}
 use Rattle.act1_groute.proofs.RouteFacts.{IsNet, net_is, is_net, own_is, is_own}
 
 -- a later column is in no earlier segment

@@ -1,33 +1,14 @@
 ghost use Rattle.std.specs.Prelude.{◌≡◌, ◌≤◌, [], ◌∷◌, ◌++◌, length, map, IfOk, OnOk};
 ghost use Rattle.std.specs.List.{list_any};
 ghost use Rattle.act1_plan.specs.Legal.{Legal};
-ghost use Rattle.act1_groute.specs.Nets.{is_same_source, nets};
+ghost use Rattle.act1_groute.specs.Nets.{nets};
 ghost use Rattle.act1_groute.specs.RouteSteps.{net_with, own_sinks, is_in};
 
 use crate::net::{Net, Sink};
 use act1_base::{Items, Memory};
 use act1_circuit::Source;
-use act1_plan::Plan;
+use act1_plan::{Plan, is_same_source};
 use std::alloc::Global;
-
-/// Whether the two sources are one.
-pub(crate) fn is_same_source(a: Source, b: Source) -> bool
-    ensures { result ≡ is_same_source a b }
-{
-    match a {
-        Source::Zero => matches!(b, Source::Zero),
-        Source::One => matches!(b, Source::One),
-        Source::Clock => matches!(b, Source::Clock),
-        Source::Input(input) => match b {
-            Source::Input(other) => input == other,
-            _ => false,
-        },
-        Source::Module(module) => match b {
-            Source::Module(other) => module == other,
-            _ => false,
-        },
-    }
-}
 
 // The sinks of a net, in the order of all sinks.
 fn own_sinks(alloc: Global, all: &[Sink], net: Source) -> Result<Items<Sink>, Memory>

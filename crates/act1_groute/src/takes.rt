@@ -5,13 +5,12 @@ ghost use Rattle.act1_groute.specs.Routes.{is_served, take_for};
 ghost use Rattle.act1_groute.specs.RouteSteps.{Leads, better, column_distance, crosses_both, demand, free_longs, is_other, serves};
 
 use crate::net::{LongWire, Take};
-use crate::nets::is_same_source;
 use crate::reach::{distance, nearest, source_column, source_covers, wire_covers};
 use crate::stop::RouteStop;
 use act1_base::Memory;
 use act1_circuit::Source;
 use act1_device::Device;
-use act1_plan::Plan;
+use act1_plan::{Plan, is_same_source};
 
 // Whether the long wire crosses both channels.
 fn crosses_both(device: &Device, wire: LongWire, home: u8, channel: u8) -> bool

@@ -5,13 +5,13 @@ ghost use Rattle.act1_groute.specs.Routes.{all_longs, own, take_all};
 ghost use Rattle.act1_groute.specs.RouteSteps.{Gives, IsWith, Leads, demands_by, demands_from, demands_of, free_longs, longs_of};
 
 use crate::net::{LongWire, Net, Take};
-use crate::nets::{is_same_source, needs};
+use crate::nets::needs;
 use crate::stop::RouteStop;
 use crate::takes::take_for;
 use act1_base::{Items, Memory};
 use act1_circuit::Source;
 use act1_device::{Device, devices_are_small};
-use act1_plan::Plan;
+use act1_plan::{Plan, is_same_source};
 use std::alloc::Global;
 
 // Adds the long wires of a column.

@@ -1,16 +1,18 @@
 ghost use Rattle.std.specs.Prelude.{IsTrue};
 ghost use Rattle.act1_logic.specs.Rows.{is_cover};
 
+use crate::marks::Marks;
 use act1_base::Items;
 
 /// What a row of a cover asks of one input: that it is 0, that it is 1, or nothing.
-#[derive(Clone, Copy, Debug, PartialEq, Eq)]
+#[derive(Clone, Copy, Debug, Default, PartialEq, Eq)]
 pub enum Mark {
     /// The input is 0.
     Zero,
     /// The input is 1.
     One,
     /// The input may be either.
+    #[default]
     Dash,
 }
 
@@ -18,7 +20,7 @@ pub enum Mark {
 #[derive(Debug, Drop)]
 pub struct Row {
     /// What it asks of each input, in order.
-    pub marks: Items<Mark>,
+    pub marks: Marks,
 }
 
 /// The function of a `.names` of Berkeley's BLIF: `output` where some row agrees with the inputs,

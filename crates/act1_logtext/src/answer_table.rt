@@ -1,13 +1,15 @@
-ghost use Rattle.std.specs.Prelude.{◌≡◌, IfOk};
+ghost use Rattle.std.specs.Prelude.{◌≡◌, ◌==◌, false, IfOk};
 ghost use Rattle.act1_logtext.specs.Answers as answers;
 ghost use Rattle.act1_logtext.specs.Answers.{answer_format, answer_table};
+ghost use Rattle.act1_logtext.specs.ReadSteps.{answer_step_on};
 ghost use Rattle.act1_table.specs.Formats.{read_own};
 ghost use Rattle.act1_base.specs.Capped.{at_most};
 ghost use Rattle.act1_table.specs.Table.{table_of};
 ghost use Rattle.act1_table.specs.Values as values;
 
 use crate::draft::AnswerLine;
-use crate::steps::{STEP_FORM, read_step};
+use crate::step_read::{is_step_line, read_step_line};
+use crate::steps::STEP_FORM;
 use act1_base::Memory;
 use act1_table::{Field, Form, Given, Limit, LineGiven, Part, number_at, read_line};
 use std::alloc::Global;
@@ -84,39 +86,43 @@ fn track_of(words: &[Given]) -> u16
     }
 }
 
-// The line of a step, if the words say one.
-fn as_step(alloc: Global, words: &[Given]) -> Result<Option<AnswerLine>, Memory>
-    ensures { IfOk result (λ line. line ≡ answers.as_step words.now) }
+// The line of a step, if the bytes say one.
+fn read_answer_step(alloc: Global, bytes: &[u8]) -> Result<Option<AnswerLine>, Memory>
+    ensures { IfOk result (λ line. line ≡ answer_step_on bytes.now) }
 {
-    match read_step(alloc, words)? {
+    match read_step_line(alloc, bytes)? {
         Some(step) => Ok(Some(AnswerLine::Step(step))),
         None => Ok(None),
     }
 }
 
-// What a line of the table says.
-fn line_of(alloc: Global, given: &LineGiven) -> Result<Option<AnswerLine>, Memory>
-    ensures { IfOk result (λ line. line ≡ answers.line_of given.now) }
+// What a line of the table says that isn't of the form of a step.
+fn line_of(given: &LineGiven) -> Option<AnswerLine>
+    requires { (given.now.form == 4) ≡ false }
+    ensures { result ≡ answers.line_of given.now }
 {
     let words = given.words.as_slice();
     match given.form {
-        HEADER => Ok(Some(AnswerLine::Header)),
-        ASSIGNED => Ok(Some(AnswerLine::Assigned)),
-        TAKE => Ok(Some(AnswerLine::Take(track_of(words)))),
-        REFUTED => Ok(Some(AnswerLine::Refuted)),
-        STEP => as_step(alloc, words),
-        SPENT => Ok(Some(AnswerLine::Spent(number_at(words, 1)))),
-        END => Ok(Some(AnswerLine::End)),
-        _ => Ok(None),
+        HEADER => Some(AnswerLine::Header),
+        ASSIGNED => Some(AnswerLine::Assigned),
+        TAKE => Some(AnswerLine::Take(track_of(words))),
+        REFUTED => Some(AnswerLine::Refuted),
+        SPENT => Some(AnswerLine::Spent(number_at(words, 1))),
+        END => Some(AnswerLine::End),
+        _ => None,
     }
 }
 
-/// The line that the bytes say, if they say one.
+/// The line that the bytes say, if they say one. A step is read straight into its choices and hints, since it may
+/// have millions of them; the other lines are short.
 pub(crate) fn read_answer_line(alloc: Global, bytes: &[u8]) -> Result<Option<AnswerLine>, Memory>
     ensures { IfOk result (λ line. line ≡ read_own answer_format bytes.now) }
 {
+    if is_step_line(bytes) {
+        return read_answer_step(alloc, bytes);
+    }
     match read_line(alloc, answer_table(), bytes)? {
-        Some(given) => line_of(alloc, &given),
+        Some(given) => Ok(line_of(&given)),
         None => Ok(None),
     }
 }

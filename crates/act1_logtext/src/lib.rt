@@ -9,6 +9,7 @@ mod answer_write;
 mod draft;
 mod fault;
 mod logs;
+mod step_read;
 mod steps;
 
 pub use answer::Answer;
@@ -16,4 +17,5 @@ pub use answer_read::read_answer;
 pub use answer_write::answer_text;
 pub use fault::LogFault;
 pub use logs::{add_step, log_text, read_log};
-pub use steps::{STEP_FORM, read_step, step_line, write_steps};
+pub use step_read::{is_step_line, read_step_line};
+pub use steps::{STEP_FORM, step_line, write_steps};

@@ -7,10 +7,11 @@ ghost use Rattle.act1_table.specs.Formats.{read_own};
 ghost use Rattle.act1_table.specs.Table.{table_of};
 
 use crate::fault::LogFault;
-use crate::steps::{STEP_FORM, read_step, write_steps};
+use crate::step_read::read_step_line;
+use crate::steps::{STEP_FORM, write_steps};
 use act1_base::{Format, Items, Memory, Stop, TextFault, read_text};
 use act1_channel::{Log, Step};
-use act1_table::{Form, read_line};
+use act1_table::Form;
 use std::alloc::Global;
 
 const LOG_LINES: &[Form] = &[STEP_FORM];
@@ -23,13 +24,12 @@ fn log_table() -> &'static [Form]
 }
 
 // The step that the bytes of a line say, if they say one.
+#[tactic(auto, using(crate::proofs::StepForms::log_line_read))]
 fn read_log_line(alloc: Global, bytes: &[u8]) -> Result<Option<Step>, Memory>
     ensures { IfOk result (λ step. step ≡ read_own log_format bytes.now) }
 {
-    match read_line(alloc, log_table(), bytes)? {
-        Some(line) => read_step(alloc, line.words.as_slice()),
-        None => Ok(None),
-    }
+    let step = read_step_line(alloc, bytes)?;
+    Ok(step)
 }
 
 /// The steps of a log and one more. It is a fault of its line where it has no hint, or where there would be 2^32

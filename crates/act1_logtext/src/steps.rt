@@ -1,26 +1,26 @@
-ghost use Rattle.std.specs.Prelude.{◌≡◌, ◌≤◌, [], ◌++◌, map, IfOk, OnOk};
+ghost use Rattle.std.specs.Prelude.{◌≡◌, ◌++◌, map, IfOk, OnOk};
 ghost use Rattle.act1_base.specs.Words.{text_line, text_of_lines};
 ghost use Rattle.act1_logtext.specs.StepLines as lines;
-ghost use Rattle.act1_logtext.specs.StepLines.{choice_given, hint_given, hint_said, hints_on, choices_on, most_at};
+ghost use Rattle.act1_logtext.specs.StepLines.{choice_given, hint_given};
 ghost use Rattle.act1_logtext.specs.WriteSteps.{step_line_words, with_words};
 ghost use Rattle.act1_table.specs.Table.{table_of};
 ghost use Rattle.act1_table.specs.Values.{with_word};
 
-use act1_base::{Items, Memory};
+use act1_base::Memory;
 use act1_channel::{Choice, Hint, Step};
-use act1_table::{Field, Form, Given, Limit, LineGiven, Part, write_line};
+use act1_table::{Field, Form, Limit, LineGiven, Part, write_line};
 use std::alloc::Global;
 
 // The ways of the words behind `step`, by their numbers.
-const CHOICE: usize = 0;
+pub(crate) const CHOICE: usize = 0;
 
-const COLON: usize = 1;
+pub(crate) const COLON: usize = 1;
 
-const AT_LEAST: usize = 2;
+pub(crate) const AT_LEAST: usize = 2;
 
-const CLASH: usize = 3;
+pub(crate) const CLASH: usize = 3;
 
-const STEP: usize = 4;
+pub(crate) const STEP: usize = 4;
 
 const CONNECTION: Part = Part::Number(Limit::Most(65_535));
 
@@ -46,110 +46,6 @@ pub const STEP_FORM: Form = Form {
         &[Part::Text(b"s"), Part::Number(Limit::Most(4_294_967_295))],
     ]),
 };
-
-// The number at a place, or the most where it is greater.
-fn most_at(most: u64, numbers: &[u64], at: usize) -> u64
-    ensures value { result ≡ most_at most numbers.now at }
-    ensures most { result ≤ most }
-{
-    match numbers.get(at) {
-        Some(n) => { if *n <= most { *n } else { most } }
-        None => 0,
-    }
-}
-
-// The choice of these numbers.
-fn choice_of(numbers: &[u64]) -> Choice
-    ensures { result ≡ lines.choice_of numbers.now }
-{
-    Choice {
-        connection: most_at(65_535, numbers, 0) as u16,
-        track: most_at(255, numbers, 1) as u8,
-    }
-}
-
-// The clash of these numbers.
-fn clash_of(numbers: &[u64]) -> Hint
-    ensures { result ≡ lines.clash_of numbers.now }
-{
-    Hint::Clash {
-        first: most_at(65_535, numbers, 0) as u16,
-        second: most_at(65_535, numbers, 1) as u16,
-        track: most_at(255, numbers, 2) as u8,
-    }
-}
-
-// The hint of a way with these numbers.
-fn hint_of(way: usize, numbers: &[u64]) -> Option<Hint>
-    ensures { result ≡ lines.hint_of way numbers.now }
-{
-    match way {
-        AT_LEAST => Some(Hint::AtLeast(most_at(65_535, numbers, 0) as u16)),
-        CLASH => Some(clash_of(numbers)),
-        STEP => Some(Hint::Step(most_at(4_294_967_295, numbers, 0) as u32)),
-        _ => None,
-    }
-}
-
-// The hint that a word says, if it says one.
-fn hint_said(word: &Given) -> Option<Hint>
-    ensures { result ≡ hint_said word.now }
-{
-    match word {
-        Given::Name(_) => None,
-        Given::Way { way, numbers } => hint_of(*way, numbers.as_slice()),
-    }
-}
-
-// The step of these choices and the hints that the words say, if each says one.
-fn read_hints(
-    alloc: Global,
-    choices: Items<Choice>,
-    words: &[Given],
-) -> Result<Option<Step>, Memory>
-    ensures { IfOk result (λ step. step ≡ hints_on choices [] words.now) }
-{
-    let mut hints = Vec::with_capacity(alloc, words.len())?;
-    for word in words {
-        match hint_said(word) {
-            Some(hint) => hints.push(hint)?,
-            None => return Ok(None),
-        }
-    }
-    Ok(Some(Step {
-        choices,
-        hints: Items::from_vec(hints),
-    }))
-}
-
-// The step that the words behind the first say, if they say one.
-fn read_choices(alloc: Global, words: &[Given]) -> Result<Option<Step>, Memory>
-    ensures { IfOk result (λ step. step ≡ choices_on [] words.now) }
-{
-    let mut choices = Items::new(alloc);
-    for (at, word) in words.iter().enumerate() {
-        match word {
-            Given::Name(_) => return Ok(None),
-            Given::Way { way, numbers } => match *way {
-                CHOICE => choices.push(choice_of(numbers.as_slice()))?,
-                COLON => return read_hints(alloc, choices, &words[at + 1..]),
-                _ => return Ok(None),
-            },
-        }
-    }
-    Ok(None)
-}
-
-/// The step that the words of a line of the form `STEP_FORM` say: the choices, `:` and the hints. There is none
-/// where `:` lacks or comes twice, or where a hint stands before it or a choice behind it.
-pub fn read_step(alloc: Global, words: &[Given]) -> Result<Option<Step>, Memory>
-    ensures { IfOk result (λ step. step ≡ lines.step_of words.now) }
-{
-    match words {
-        [_, rest @ ..] => read_choices(alloc, rest),
-        [] => Ok(None),
-    }
-}
 
 // Adds the words of the choices.
 fn add_choices(alloc: Global, line: &mut LineGiven, choices: &[Choice]) -> Result<(), Memory>

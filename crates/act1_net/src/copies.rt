@@ -2,7 +2,7 @@ ghost use Rattle.std.specs.Prelude.{◌≡◌, IfOk};
 
 use act1_base::{Items, Memory, Name, copy_of_name};
 use act1_blif::{Blif, Latch, Node};
-use act1_logic::{Cover, Row};
+use act1_logic::{Cover, Marks, Row};
 use std::alloc::Global;
 
 /// A copy of a name.
@@ -30,7 +30,7 @@ fn copy_of_rows(alloc: Global, rows: &[Row]) -> Result<Items<Row>, Memory>
     let mut copy = Items::new(alloc);
     for row in rows {
         copy.push(Row {
-            marks: Items::from_slice(alloc, row.marks.as_slice())?,
+            marks: Marks::from_slice(alloc, row.marks.as_slice())?,
         })?;
     }
     Ok(copy)

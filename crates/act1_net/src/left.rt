@@ -7,7 +7,7 @@ use crate::gate::Gate;
 use crate::net::NetTerm;
 use act1_base::{Items, Memory};
 use act1_blif::Node;
-use act1_logic::{Mark, Row};
+use act1_logic::{Mark, Marks, Row};
 use std::alloc::Global;
 
 /// The term of a signal.
@@ -77,7 +77,7 @@ fn has_against(terms: &[NetTerm], marks: &[Mark]) -> bool
 }
 
 // The mark goes last, where it is a signal's.
-fn add_mark(marks: &mut Items<Mark>, term: NetTerm, mark: Mark) -> Result<(), Memory>
+fn add_mark(marks: &mut Marks, term: NetTerm, mark: Mark) -> Result<(), Memory>
     ensures { OnOk result (marks.new ≡ marks.old ++ option_to_list (mark_left term mark)) }
 {
     match term {
@@ -88,11 +88,11 @@ fn add_mark(marks: &mut Items<Mark>, term: NetTerm, mark: Mark) -> Result<(), Me
 }
 
 // The marks of signals.
-fn marks_left(alloc: Global, terms: &[NetTerm], marks: &[Mark]) -> Result<Items<Mark>, Memory>
+fn marks_left(alloc: Global, terms: &[NetTerm], marks: &[Mark]) -> Result<Marks, Memory>
     requires { length marks.now ≡ length terms.now }
     ensures { IfOk result (λ left. left ≡ marks_left terms.now marks.now) }
 {
-    let mut left = Items::new(alloc);
+    let mut left = Marks::new(alloc);
     for (term, mark) in terms.iter().zip(marks) {
         add_mark(&mut left, *term, *mark)?;
     }

@@ -1,14 +1,13 @@
 -- What the changes of a module's nets and of another's say of the whole sum.
-use Rattle.std.proofs.Common.{ℕ, ◌≡◌, ◌≢◌, ◌⊎◌, ◌+◌, ◌*◌, ◌<◌, ◌≤◌, ◌==◌, ◌||◌, not, Bool, true, false, cond, List, [], ◌∷◌, ◌++◌, length, map, get_or, Option, Some, None, refl, sym, ap, subst, ◌∙◌, inl, inr, arith, Contains, AllPairs}
+use Rattle.std.proofs.Common.{ℕ, ◌≡◌, ◌≢◌, ◌⊎◌, ◌+◌, ◌*◌, ◌<◌, ◌≤◌, ◌==◌, ◌||◌, not, Bool, true, false, cond, List, [], ◌∷◌, ◌++◌, length, map, Option, Some, None, refl, sym, ap, subst, ◌∙◌, inl, inr, arith, Contains, AllPairs}
 use Rattle.std.specs.Prelude.{filter, sum_by, slice_get, slice_set, All}
-use Rattle.std.specs.List.{list_any}
 use Rattle.std.proofs.lemmas.Bool.{eqb-true, eq-eqb, false≢true}
-use Rattle.std.proofs.lemmas.List.{length-map, get_or-map}
+use Rattle.std.proofs.lemmas.List.{get_or-map}
 use Rattle.std.proofs.lemmas.List.Elements.{All-contains, Contains-append_left as append_left, Contains-append_right as append_right, Contains-append_cases as append_cases}
 use Rattle.std.proofs.lemmas.List.Filters.{sum_by-filter_both}
 use Rattle.std.proofs.lemmas.List.Sums.{sum_by-cons}
 use Rattle.std.proofs.lemmas.Option.{slice_get-get_or}
-use Rattle.act1_base.proofs.ListGets.{some_is, get_within}
+use Rattle.act1_base.proofs.ListGets.{get_within}
 use Rattle.act1_circuit.specs.declared.circuit.Spot.{Spot}
 use Rattle.act1_place.specs.declared.ends.Ends.{Ends}
 use Rattle.act1_place.specs.declared.ends.Change.{Change}
@@ -16,12 +15,12 @@ use Rattle.act1_place.specs.declared.net.Joins.{Joins}
 use Rattle.act1_place.specs.declared.net.Place.{Place}
 use Rattle.act1_place.specs.Ends.{AreEnds, AreAllEnds, AreRenewed, IsChange, has, without, ends_at, half_with, number_of}
 use Rattle.act1_place.specs.Gains.{IsInside, HasAll, AreItsNets, IsKept}
-use Rattle.act1_place.specs.Kept.{spot_of, places, net_sum, kept_total, joins, touches, touched_sum, net_at, others, Occupies, AreTouched}
+use Rattle.act1_place.specs.Kept.{spot_of, places, net_sum, kept_total, joins, touches, net_at, others, Occupies, AreTouched}
 use Rattle.act1_place.specs.Moves.{columns_with, heights_with}
 use Rattle.act1_place.specs.Passes.{is_same_spot, moved, exchange}
 use Rattle.act1_place.specs.Perimeter.{place_of, spread, half_perimeter}
-use Rattle.act1_base.proofs.Elements.{here, later, filtered, any_of, some_of, in_map, mapped, in_filter}
-use Rattle.act1_place.proofs.KeptSums.{AmongEachOther, perimeter_among, sum_agree, moves, place_once, untouched}
+use Rattle.act1_base.proofs.Elements.{here, later, filtered, any_of, some_of, in_map, mapped}
+use Rattle.act1_place.proofs.KeptSums.{perimeter_among, sum_agree, moves, place_once, untouched}
 use Rattle.act1_place.proofs.LocalSums.{local, same_each, kept_sum}
 use Rattle.act1_place.proofs.MoveSums.{net_set, spot_is}
 use Rattle.act1_place.proofs.PassLaws.{spot_cases, moved_first, moved_second, moved_other, exchange_back}

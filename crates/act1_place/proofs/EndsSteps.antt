@@ -1,11 +1,11 @@
 -- What is kept of nets, net by net, and what sums over them are.
-use Rattle.std.proofs.Common.{ℕ, zero, suc, ◌≡◌, ◌≢◌, ◌⊎◌, ◌+◌, ◌*◌, ◌<◌, ◌≤◌, ◌==◌, not, Bool, true, false, cond, List, [], ◌∷◌, ◌++◌, length, map, take, get_or, Option, Some, None, refl, sym, ap, subst, ◌∙◌, inl, inr, arith, Contains}
-use Rattle.std.specs.Prelude.{filter, sum_by, slice_get, slice_set, All}
+use Rattle.std.proofs.Common.{ℕ, zero, suc, ◌≡◌, ◌≢◌, ◌⊎◌, ◌+◌, ◌<◌, not, Bool, true, false, cond, List, [], ◌∷◌, ◌++◌, length, take, get_or, Some, refl, sym, ap, subst, ◌∙◌, inl, inr, arith, Contains}
+use Rattle.std.specs.Prelude.{filter, sum_by, slice_get, slice_set}
 use Rattle.std.proofs.lemmas.Bool.{cases_eq}
-use Rattle.std.proofs.lemmas.List.{length-append, length-set, length-take, length-take-le, take_more, take_all, get_or_default, get_or_read}
+use Rattle.std.proofs.lemmas.List.{length-append, length-set, length-take, take_more, get_or_read}
 use Rattle.std.proofs.lemmas.List.Elements.{filter_more, Contains-append_cases as append_cases}
 use Rattle.std.proofs.lemmas.List.Sums.{sum_by-append, sum_by-cons}
-use Rattle.act1_base.proofs.ListGets.{some_is, get_within}
+use Rattle.act1_base.proofs.ListGets.{some_is}
 use Rattle.act1_circuit.specs.declared.circuit.Spot.{Spot}
 use Rattle.act1_place.specs.declared.ends.Ends.{Ends}
 use Rattle.act1_place.specs.declared.ends.Change.{Change}

@@ -17,7 +17,7 @@ use Rattle.act1_circuit.specs.declared.circuit.Spot.{Spot}
 use Rattle.act1_base.specs.Lists.{numbers, least_number, greatest_number}
 use Rattle.act1_plan.specs.Nets.{is_same_source}
 use Rattle.act1_base.proofs.Elements.{here, later, first_or_later, not_in_none, in_filter, filtered, any_of, some_of, in_map, mapped, least_is, greatest_is}
-use Rattle.act1_place.proofs.SourceFacts.{same_source_is, source_is_itself}
+use Rattle.act1_plan.proofs.SourceFacts.{same_source_is, source_is_itself}
 use Rattle.act1_place.specs.declared.net.Place.{Place}
 use Rattle.act1_place.specs.Perimeter.{place_of, pad_place, End, pin_ends, output_ends, all_ends, nets_of, places_of, spread, half_perimeter, total}
 use Rattle.act1_place.specs.Passes.{is_same_spot, moved, exchange}

@@ -14,7 +14,6 @@ pub mod PlaceSteps
 pub mod Seen
 pub mod Shuffles
 pub mod SiteFacts
-pub mod SourceFacts
 pub mod Spans
 pub mod Starts
 pub mod TotalSteps

@@ -1,6 +1,6 @@
 -- How far the elements of a net reach, as they are seen one after the other.
-use Rattle.std.proofs.Common.{ℕ, ◌≡◌, ◌+◌, ◌-◌, ◌*◌, ◌<◌, ◌≤◌, ◌==◌, ◌||◌, Bool, true, false, cond, min, max, List, [], ◌∷◌, ◌++◌, length, map, take, get_or, refl, sym, ap, subst, ◌∙◌, arith, append_assoc, append-nil}
-use Rattle.std.proofs.lemmas.List.{take_more, take_all, map_push}
+use Rattle.std.proofs.Common.{ℕ, ◌≡◌, ◌+◌, ◌-◌, ◌*◌, ◌<◌, ◌≤◌, ◌==◌, ◌||◌, Bool, true, false, cond, min, List, [], ◌∷◌, ◌++◌, length, map, take, get_or, refl, sym, ap, subst, ◌∙◌, arith, append_assoc, append-nil}
+use Rattle.std.proofs.lemmas.List.{take_more, map_push}
 use Rattle.std.proofs.lemmas.Bool.{eqb-true}
 use Rattle.std.specs.List.{list_any}
 use Rattle.act1_circuit.specs.declared.circuit.Spot.{Spot}
@@ -9,9 +9,8 @@ use Rattle.act1_place.specs.declared.ends.Reach.{Reach}
 use Rattle.act1_place.specs.declared.ends.Ends.{Ends}
 use Rattle.act1_place.specs.declared.net.Joins.{Joins}
 use Rattle.act1_place.specs.declared.net.Place.{Place}
-use Rattle.act1_place.specs.Ends.{least_but, Element, module_elements, pad_elements, least_without, IsSeen, AreSmall, AreSeen, IsReachWith, AreEndsWith, span_with, width_with, height_with, AreEnds}
-use Rattle.act1_place.specs.Kept.{joins, spot_of, net_sum}
-use Rattle.act1_place.specs.Moves.{columns_with, heights_with}
+use Rattle.act1_place.specs.Ends.{Element, module_elements, pad_elements, least_without, IsSeen, AreSmall, AreSeen, IsReachWith, AreEndsWith, span_with, AreEnds}
+use Rattle.act1_place.specs.Kept.{spot_of, net_sum}
 use Rattle.act1_place.specs.Perimeter.{place_of, spread}
 
 abbrev pub element : ℕ → Place → Element

@@ -13,26 +13,8 @@ use crate::sums::joins;
 use act1_base::{Items, Memory};
 use act1_circuit::{Circuit, Output, Source};
 use act1_device::{Device, devices_are_small};
+use act1_plan::is_same_source;
 use std::alloc::Global;
-
-// Whether the two sources are one.
-fn is_same_source(a: Source, b: Source) -> bool
-    ensures { result ≡ is_same_source a b }
-{
-    match a {
-        Source::Zero => matches!(b, Source::Zero),
-        Source::One => matches!(b, Source::One),
-        Source::Clock => matches!(b, Source::Clock),
-        Source::Input(input) => match b {
-            Source::Input(other) => input == other,
-            _ => false,
-        },
-        Source::Module(module) => match b {
-            Source::Module(other) => module == other,
-            _ => false,
-        },
-    }
-}
 
 // Whether the net drives one of the pins.
 fn drives(net: Source, pins: &[Source]) -> bool

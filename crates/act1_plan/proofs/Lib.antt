@@ -7,3 +7,4 @@ pub mod PlanTexts
 pub mod PlanWrites
 pub mod RankFacts
 pub mod SiteOrders
+pub mod SourceFacts

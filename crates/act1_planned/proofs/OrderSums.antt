@@ -22,7 +22,7 @@ use Rattle.act1_place.specs.Perimeter.{place_of, pad_place, End, pin_ends, outpu
 use Rattle.act1_base.proofs.Distinct.{Differ, differ_numbers}
 use Rattle.act1_base.proofs.Elements.{here, later, first_or_later, not_in_none, in_filter, filtered, in_map, mapped, in_numbers, number_in}
 use Rattle.act1_place.proofs.KeptSums.{perimeter_among, sum_agree, sum_map, pin_end_is, is_pin_end}
-use Rattle.act1_place.proofs.SourceFacts.{same_source_is, source_is_itself}
+use Rattle.act1_plan.proofs.SourceFacts.{same_source_is, source_is_itself}
 use Rattle.act1_place.proofs.Starts.{placements_settle_law}
 use Rattle.act1_planned.specs.Laws.{OrderKeepsSums, PlacedIsStable}
 use Rattle.act1_planned.proofs.Numbered.{IsNumbered, fits, numbered}

@@ -3,3 +3,4 @@ mod ReportLines
 mod ReportSteps
 mod ReportTexts
 mod ReportWrites
+mod StepForms

@@ -5,6 +5,7 @@ pub mod NumberLaws
 pub mod PartLaws
 pub mod PlainLaws
 pub mod WordBytes
+pub mod WordCuts
 pub mod WordCounts
 pub mod WordLaws
 pub mod WriteLaws

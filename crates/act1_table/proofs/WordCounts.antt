@@ -1,14 +1,14 @@
 -- A line with more or fewer words than its form has.
-use Rattle.std.proofs.Common.{ℕ, ◌≡◌, ◌≢◌, ◌<◌, ◌⊎◌, inl, inr, eqb, nat_lt, Bool, true, false, not, ◌&&◌, ◌||◌, IsTrue, List, [], ◌∷◌, ◌++◌, length, Option, Some, None, refl, sym, ap, ◌∙◌, arith}
+use Rattle.std.proofs.Common.{ℕ, ◌≡◌, ◌≢◌, ◌<◌, ◌⊎◌, inl, inr, eqb, nat_lt, Bool, true, false, not, ◌&&◌, ◌||◌, IsTrue, List, [], ◌∷◌, ◌++◌, length, drop, Option, Some, None, refl, sym, ap, ◌∙◌, arith}
 use Rattle.std.proofs.lemmas.Bool.{cases_order}
 use Rattle.std.proofs.lemmas.Bool.Decides.{nat_tests}
-use Rattle.std.specs.Borrow.{Bor}
+use Rattle.std.proofs.lemmas.List.{length-drop}
 use Rattle.act1_table.specs.Table.{Part, Field, fields_of}
 use Rattle.act1_table.specs.Table as field
 use Rattle.act1_table.specs.declared.forms.Field as coded_field
 use Rattle.act1_table.specs.declared.forms.Given.{Given}
 use Rattle.act1_table.specs.Reads.{and_then, read_word, read_fields}
-use Rattle.act1_table.specs.ReadSteps.{texts, is_nothing, may_have}
+use Rattle.act1_table.specs.ReadSteps.{is_nothing, may_have}
 
 none_behind : {A B : Type 0} (found : Option A) (more : A → Option B) → ((x : A) → None ≡ more x) → None ≡ and_then found more
 none_behind None more h = refl
@@ -45,16 +45,18 @@ wrong_count fields rest words h = by (cases_order (length fields) (length words)
     by (inr (inl low)) = too_many [] fields rest words (more_words (length fields) (length words) (is_nothing rest) h low) low
     by (inr (inr high)) = too_few [] fields rest words high
 
-as_many : (words : List (Bor (List ℕ))) → length (texts words) ≡ length words
-as_many [] = refl
-as_many (w ∷ words) = let rest = as_many words in omega arith
-
 as_many_fields : (fields : List coded_field.Field) → length (fields_of fields) ≡ length fields
 as_many_fields [] = refl
 as_many_fields (f ∷ fields) = let rest = as_many_fields fields in omega arith
 
 -- so many words are no line of the form
-pub none_read : (fields : List coded_field.Field) (rest : Field) (words : List (Bor (List ℕ))) → may_have (length fields) rest (length words) ≡ false → None ≡ read_fields [] (fields_of fields) rest (texts words)
-none_read fields rest words h =
-    wrong_count (fields_of fields) rest (texts words)
-    (ap (λ (k : ℕ). may_have k rest (length (texts words))) (as_many_fields fields) ∙ ap (may_have (length fields) rest) (as_many words) ∙ h)
+pub none_read : (fields : List coded_field.Field) (rest : Field) (words : List (List ℕ)) → may_have (length fields) rest (length words) ≡ false → None ≡ read_fields [] (fields_of fields) rest words
+none_read fields rest words h = wrong_count (fields_of fields) rest words (ap (λ (k : ℕ). may_have k rest (length words)) (as_many_fields fields) ∙ h)
+
+-- where no word is left for a field, the words are no line of the form
+pub no_word_left : (said : List Given) (fields : List coded_field.Field) (i : ℕ) (rest : Field) (words : List (List ℕ)) → i < length fields → words ≡ [] → None ≡ read_fields said (fields_of (drop i fields)) rest words
+no_word_left said fields i rest words low none =
+    let same = as_many_fields (drop i fields) in
+    let long = length-drop i fields in
+    let few : length words ≡ 0 = ap (λ (ws : List (List ℕ)). length ws) none in
+    too_few said (fields_of (drop i fields)) rest words (omega arith)

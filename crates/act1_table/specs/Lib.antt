@@ -8,4 +8,5 @@ pub mod Reads
 pub mod ReadSteps
 pub mod Table
 pub mod Values
+pub mod WordsLeft
 pub mod WriteSteps

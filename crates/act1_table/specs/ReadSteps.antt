@@ -1,14 +1,9 @@
 -- What the steps of the reader need.
-use Rattle.std.specs.Prelude.{ℕ, Bool, true, false, ◌&&◌, ◌||◌, not, ◌==◌, nat_lt, List, [], ◌∷◌, map, Option, Some, None}
-use Rattle.std.specs.Borrow.{Bor}
+use Rattle.std.specs.Prelude.{ℕ, Bool, true, false, ◌&&◌, ◌||◌, not, ◌==◌, nat_lt, List, [], ◌∷◌, Option, Some, None}
 use Rattle.act1_table.specs.Table.{Part}
 use Rattle.act1_table.specs.Table.{Field}
 use Rattle.act1_table.specs.Table as field
 use Rattle.act1_table.specs.Table.{Form}
-
--- the bytes of the words
-abbrev pub texts : List (Bor (List ℕ)) → List (List ℕ)
-texts words = map (λ (word : Bor (List ℕ)). word.now) words
 
 -- the value, if the test was passed
 abbrev pub some_if : {A : Type 0} → Bool → A → Option A

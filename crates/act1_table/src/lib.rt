@@ -8,11 +8,13 @@ mod laws;
 mod numbers;
 mod read;
 mod values;
+mod words;
 mod write;
 
 pub use forms::{Field, Form, Given, Limit, LineGiven, Part};
 pub use laws::lines_say_one_thing;
 pub use numbers::Numbers;
-pub use read::read_line;
+pub use read::{read_line, read_word};
 pub use values::{at_most, name_at, number_at, numbers_at, way_at};
+pub use words::Words;
 pub use write::write_line;

@@ -1,13 +1,15 @@
 ghost use Rattle.std.specs.Prelude.{◌≡◌, [], ◌++◌, ◌∷◌, length, IfOk};
+ghost use Rattle.act1_base.specs.Words.{words_of};
 ghost use Rattle.act1_table.specs.Lines.{read_line};
 ghost use Rattle.act1_table.specs.Reads.{digits_in_front, number_of, read_parts, read_ways, read_word, read_fields, read_forms};
 ghost use Rattle.act1_table.specs.Reads as reads;
-ghost use Rattle.act1_table.specs.ReadSteps.{texts, some_if, may_have, is_nothing};
+ghost use Rattle.act1_table.specs.ReadSteps.{some_if, may_have, is_nothing};
 ghost use Rattle.act1_table.specs.Table.{parts_of, ways_of, field_of, fields_of, table_of};
 
 use crate::forms::{Field, Form, Given, Limit, LineGiven, Part};
 use crate::numbers::Numbers;
-use act1_base::{Items, Memory, Name, capped_number, is_name, is_number, read_number, words_of};
+use crate::words::Words;
+use act1_base::{Items, Memory, Name, capped_number, is_name, is_number, read_number};
 use std::alloc::Global;
 
 // How many digits the word begins with.
@@ -91,8 +93,8 @@ fn read_ways(alloc: Global, ways: &[&[Part]], word: &[u8]) -> Result<Option<Give
     Ok(None)
 }
 
-// What a word says.
-fn read_word(alloc: Global, field: Field, word: &[u8]) -> Result<Option<Given>, Memory>
+/// What a word of the field says, or none where it is no such word.
+pub fn read_word(alloc: Global, field: Field, word: &[u8]) -> Result<Option<Given>, Memory>
     ensures { IfOk result (λ given. given ≡ read_word (field_of field) word.now) }
 {
     match field {
@@ -124,24 +126,38 @@ fn may_have(fields: usize, rest: Field, words: usize) -> bool
     fields == words || (fields < words && !is_nothing(rest))
 }
 
-// Reads what the words of a line of this form say into the empty list, and answers whether they are of it.
-// The list stays in use from form to form, so that no form that isn't the line's takes memory of its own.
+// Reads what the words of a line of this form say into the empty list, and answers whether they are of it. Only
+// where there may be so many words and the first ones are of the form, memory is taken for those behind them, for
+// just as many as there are. The list stays in use from form to form, so that no form that isn't the line's takes
+// memory of its own.
 fn read_fields(
     alloc: Global,
     said: &mut Vec<Given>,
     fields: &[Field],
     rest: Field,
-    words: &[&[u8]],
+    line: &[u8],
+    count: usize,
 ) -> Result<bool, Memory>
-    requires { said.old.items ≡ [] }
-    ensures { IfOk result (λ all. some_if all said.new.items ≡ read_fields [] (fields_of fields.now) (field_of rest) (texts words.now)) }
+    requires empty { said.old.items ≡ [] }
+    requires counted { count ≡ length (words_of line.now) }
+    ensures { IfOk result (λ all. some_if all said.new.items ≡ read_fields [] (fields_of fields.now) (field_of rest) (words_of line.now)) }
 {
-    if !may_have(fields.len(), rest, words.len()) {
+    if !may_have(fields.len(), rest, count) {
         return Ok(false);
     }
-    for (i, word) in words.iter().enumerate() {
-        let field = if i < fields.len() { fields[i] } else { rest };
-        let Some(given) = read_word(alloc, field, word)? else {
+    let mut words = Words::new(line);
+    for field in fields {
+        let Some(word) = words.take_first() else {
+            return Ok(false);
+        };
+        let Some(given) = read_word(alloc, *field, word)? else {
+            return Ok(false);
+        };
+        said.push(given)?;
+    }
+    said.reserve_exact(words.count())?;
+    while let Some(word) = words.take_first() {
+        let Some(given) = read_word(alloc, rest, word)? else {
             return Ok(false);
         };
         said.push(given)?;
@@ -149,14 +165,16 @@ fn read_fields(
     Ok(true)
 }
 
-// The first form of the table that the words are, and what each word says, or none where they are of no form.
-fn read_words(alloc: Global, table: &[Form], words: &[&[u8]]) -> Result<Option<LineGiven>, Memory>
-    ensures { IfOk result (λ line. line ≡ read_forms 0 (table_of table.now) (texts words.now)) }
+/// What a line says, which comes without its line feed: the first form of the table that it is, and what each
+/// of its words says; or none where it is of no form. Of a clear table it is of one form at most.
+pub fn read_line(alloc: Global, table: &[Form], line: &[u8]) -> Result<Option<LineGiven>, Memory>
+    ensures { IfOk result (λ given. given ≡ read_line (table_of table.now) line.now) }
 {
-    let mut said = Vec::with_capacity(alloc, words.len())?;
+    let count = Words::new(line).count();
+    let mut said = Vec::new(alloc);
     for (number, form) in table.iter().enumerate() {
         said.clear();
-        if read_fields(alloc, &mut said, form.fields, form.rest, words)? {
+        if read_fields(alloc, &mut said, form.fields, form.rest, line, count)? {
             return Ok(Some(LineGiven {
                 form: number,
                 words: Items::from_vec(said),
@@ -164,13 +182,4 @@ fn read_words(alloc: Global, table: &[Form], words: &[&[u8]]) -> Result<Option<L
         }
     }
     Ok(None)
-}
-
-/// What a line says, which comes without its line feed: the first form of the table that it is, and what each
-/// of its words says; or none where it is of no form. Of a clear table it is of one form at most.
-pub fn read_line(alloc: Global, table: &[Form], line: &[u8]) -> Result<Option<LineGiven>, Memory>
-    ensures { IfOk result (λ given. given ≡ read_line (table_of table.now) line.now) }
-{
-    let words = words_of(alloc, line)?;
-    read_words(alloc, table, words.as_slice())
 }

@@ -27,15 +27,15 @@ loop-line-preserved c =
     record {
       can = tt;
       finite = tt;
-      place = c.in_ok-place.ensures.goes (text_lines c.args.bytes.now) c.next.new.self
+      place = c.in_ok-next_line.ensures.goes (text_lines c.args.bytes.now) c.next.new.self
           (subst (λ (raws : List (List ℕ)). IsPlace (text_lines c.args.bytes.now) raws c.loop-line.place) lines c.loop-line.invariant.place);
-      kept = omega (arith, less, c.in_ok-place.ensures.kept, c.loop-line.invariant.kept);
-      number = omega (arith, less, c.in_ok-place.ensures.number, c.loop-line.invariant.number);
+      kept = omega (arith, less, c.in_ok-next_line.ensures.kept, c.loop-line.invariant.kept);
+      number = omega (arith, less, c.in_ok-next_line.ensures.number, c.loop-line.invariant.number);
     }
 
-pub returns-in_err-place : goal.returns-in_err-place
-returns-in_err-place c =
+pub returns-in_err-next_line : goal.returns-in_err-next_line
+returns-in_err-next_line c =
     let lines : c.loop-line.line-iterator ≡ c.in-Some.line.now ∷ c.next.new.self = c.in-Some.ensures.steps in
     let p = err_from_is_err_and c.from_residual.result c.from_residual.ensures.1 in
-    rw (p.1, p.2) (c.in_err-place.ensures.goes (text_lines c.args.bytes.now) c.next.new.self
+    rw (p.1, p.2) (c.in_err-next_line.ensures.goes (text_lines c.args.bytes.now) c.next.new.self
     (subst (λ (raws : List (List ℕ)). IsPlace (text_lines c.args.bytes.now) raws c.loop-line.place) lines c.loop-line.invariant.place))

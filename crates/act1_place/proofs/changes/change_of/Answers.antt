@@ -1,4 +1,4 @@
-use Rattle.std.proofs.Common.{ℕ, ap, ◌+◌, ◌≤◌, ◌∙◌, get_or, refl, sym, arith}
+use Rattle.std.proofs.Common.{ℕ, ap, ◌+◌, ◌∙◌, get_or, sym, arith}
 use Rattle.std.proofs.lemmas.List.{get_or_default}
 use Rattle.act1_place.proofs.EndsSteps.{long, change_skip, change_more}
 use Rattle.act1_place.proofs.changes.change_of.Goals.{then-not-has, else-not-has}

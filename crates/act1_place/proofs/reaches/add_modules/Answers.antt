@@ -2,7 +2,7 @@ use Rattle.std.proofs.Common.{ℕ, get_or, ap}
 use Rattle.std.proofs.lemmas.List.{get_or_default}
 use Rattle.act1_place.specs.Kept.{spot_of}
 use Rattle.act1_place.specs.Perimeter.{place_of}
-use Rattle.act1_place.proofs.Seen.{modules_more, none_more}
+use Rattle.act1_place.proofs.Seen.{modules_more}
 use Rattle.act1_place.proofs.reaches.add_modules.Goals as goal
 
 pub loop-module-preserved : goal.loop-module-preserved

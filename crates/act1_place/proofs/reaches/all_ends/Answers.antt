@@ -1,4 +1,4 @@
-use Rattle.act1_place.proofs.EndsSteps.{none_far, one_far, all_far}
+use Rattle.act1_place.proofs.EndsSteps.{none_far, one_far}
 use Rattle.act1_place.proofs.reaches.all_ends.Goals as goal
 
 pub loop-net-init : goal.loop-net-init

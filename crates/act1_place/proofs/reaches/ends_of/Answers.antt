@@ -1,5 +1,5 @@
 use Rattle.std.proofs.Common.{[], refl}
-use Rattle.act1_place.specs.Ends.{module_elements, pad_elements}
+use Rattle.act1_place.specs.Ends.{module_elements}
 use Rattle.act1_place.proofs.Seen.{none_seen, ends_seen}
 use Rattle.act1_place.proofs.reaches.ends_of.Goals as goal
 

@@ -1,4 +1,3 @@
-use Rattle.std.proofs.Common.{◌≤◌, length, ap, arith}
 use Rattle.act1_place.proofs.GainFacts.{its_nets}
 use Rattle.act1_place.proofs.gains.Gains.nets_at.Goals as goal
 

@@ -1,6 +1,5 @@
-use Rattle.std.proofs.Common.{ℕ, List, length, refl, sym, ap, subst, ◌∙◌, arith}
+use Rattle.std.proofs.Common.{List, length, refl, sym, ap, subst, ◌∙◌, arith}
 use Rattle.act1_circuit.specs.declared.circuit.Spot.{Spot}
-use Rattle.act1_place.specs.declared.net.Joins.{Joins}
 use Rattle.act1_place.specs.Ends.{AreAllEnds}
 use Rattle.act1_place.specs.Gains.{AreNets}
 use Rattle.act1_place.proofs.GainFacts.{few_nets, new_keeps}
